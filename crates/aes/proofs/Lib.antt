@@ -1,0 +1,4 @@
+pub mod BlockLaws
+pub mod KeyWords
+pub mod Loops
+pub mod NextKey

@@ -1,0 +1,3 @@
+pub mod Aes128
+pub mod Schedule
+pub mod Facts

@@ -1,0 +1,4 @@
+pub mod Field
+pub mod Rounds
+pub mod Parts
+pub mod Facts

@@ -1,0 +1,9 @@
+use Rattle.aes_math.specs.Field.{xtime, scale, mulBits, mul, squares, inverse, bit, digitsOf, affine, unaffine, sbox, invSbox}
+use Rattle.aes_math.proofs.Table.{table, tableFrom}
+use Rattle.aes_round.proofs.TableRules.{te0-rule}
+use native.Mathlib.Omega.{arith}
+use Rattle.aes_round.proofs.te0.Needs as need
+
+pub returns : need.returns
+unfolding table tableFrom sbox invSbox affine unaffine digitsOf bit inverse squares mul mulBits scale xtime
+returns c = te0-rule (c .args .x) (omega arith)

@@ -1,0 +1,5 @@
+pub mod Bytes
+pub mod Parts
+pub mod Swaps
+pub mod Walks
+pub mod Xor

@@ -1,0 +1,16 @@
+-- A permitted length is whole blocks.
+use Prim.Native.Nat.{ℕ, _*_, _/_, _≤_}
+use mathlib.Core.Path.{_≡_}
+use mathlib.Core.Bool.{true}
+use native.Mathlib.Omega.{arith}
+use borrow.Author.Needs.{needs}
+use Rattle.mode.specs.Modes.{permitted}
+
+pub whole-blocks : (n : ℕ) → permitted n ≡ true → n ≡ 16 * (n / 16)
+whole-blocks n p = search needs
+
+pub at-least : (n : ℕ) → permitted n ≡ true → 32 ≤ n
+at-least n p = search needs
+
+pub at-most : (n : ℕ) → permitted n ≡ true → n ≤ 4096
+at-most n p = search needs

@@ -1,0 +1,3 @@
+pub mod Rotations
+pub mod Laws
+pub mod Loops

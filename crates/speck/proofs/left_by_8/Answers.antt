@@ -1,0 +1,7 @@
+use mathlib.Core.Path.{_∙_}
+use borrow.Author.Needs.{needs}
+use Rattle.speck.proofs.Rotations.{or-left8}
+use Rattle.speck.proofs.left_by_8.Needs as need
+
+pub returns : need.returns
+returns c = c .rotate-left .ensures ∙ or-left8 (c .args .x) (search needs)

@@ -1,0 +1,2 @@
+pub mod Xcb
+pub mod Facts

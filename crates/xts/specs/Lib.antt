@@ -1,0 +1,2 @@
+pub mod Xts
+pub mod Facts
