@@ -22,7 +22,19 @@ use cipher::Cipher;
 use keys::WholeKey;
 
 // Rcon(i) of the key expansion, from i = 1.
-const RCON: [u8; 11] = [0x00, 0x01, 0x02, 0x04, 0x08, 0x10, 0x20, 0x40, 0x80, 0x1b, 0x36];
+const RCON: [u8; 11] = [
+    0x00,
+    0x01,
+    0x02,
+    0x04,
+    0x08,
+    0x10,
+    0x20,
+    0x40,
+    0x80,
+    0x1b,
+    0x36,
+];
 
 // The round keys of both directions, worked out at making; enc[0] is the key itself.
 #[derive(Drop)]
@@ -38,8 +50,7 @@ pub fn aes128_stands()
     ensures undone { λ _. ⌜ Undone ⌝ }
     ensures words { λ _. ⌜ Words ⌝ }
     ensures example { λ _. ⌜ Example ⌝ }
-{
-}
+{}
 
 fn round_constant(i: usize) -> u8
     requires { ⌜ i < 11 ⌝ }
@@ -120,6 +131,6 @@ pub impl Cipher for Aes128 as AesCipher {
     }
 
     fn draw(&self, i: u8) -> WholeKey {
-        WholeKey::from_sealed(self.seal(i as u128))
+        WholeKey::without_cards(self.seal(i as u128))
     }
 }

@@ -5,11 +5,9 @@ ghost use Rattle.aes_math.specs.Facts.{Ciphers, Products, Substitution};
 pub fn substitution_stands()
     ensures substitution { λ _. ⌜ Substitution ⌝ }
     ensures products { λ _. ⌜ Products ⌝ }
-{
-}
+{}
 
 // InvCipher and Cipher undo each other, for any round keys and any number of rounds.
 pub fn ciphers_stand()
     ensures { λ _. ⌜ Ciphers ⌝ }
-{
-}
+{}

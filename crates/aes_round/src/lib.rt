@@ -142,8 +142,7 @@ pub fn rot_word(w: u32) -> u32
 // The two substitution tables by their rule, each undoing the other, at all 256 entries.
 pub fn tables_stand()
     ensures { λ _. do ⌜ Tables (← ⟦SBOX⟧ .entry) (← ⟦INV_SBOX⟧ .entry) ⌝ }
-{
-}
+{}
 
 // One column of a round, from the columns that its rows come from.
 fn mixed(a: u32, b: u32, c: u32, d: u32, k: u32) -> u32

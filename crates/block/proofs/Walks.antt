@@ -50,7 +50,7 @@ module _ {S : Type 0} where
       let t : take 16 (front ++ rest) ≡ front = take-at front rest 16 (length-to-bytes (f s b)) in
       let d : drop 16 (front ++ rest) ≡ rest = drop-at front rest 16 (length-to-bytes (f s b)) in
       let back : g s (to-block (take 16 (front ++ rest))) ≡ b =
-          ap (λ (ys : List ℕ). g s (to-block ys)) t ∙ ap (g s) (block-bytes (f s b) (fits n s b i small)) ∙ undoes n s b i small in
+      ap (λ (ys : List ℕ). g s (to-block ys)) t ∙ ap (g s) (block-bytes (f s b) (fits n s b i small)) ∙ undoes n s b i small in
       let ld : length (drop 16 xs) ≡ 16 * n = length-drop 16 xs ∙ omega arith in
       let ih : walk g next n (next s) rest ≡ drop 16 xs = walk-walk f g next I keeps fits undoes n (next s) (drop 16 xs) (keeps n s i) (all-drop (λ d. d < 256) 16 xs u) ld in
       ap (λ (y : ℕ). to-bytes y ++ walk g next n (next s) (drop 16 (front ++ rest))) back
@@ -72,7 +72,7 @@ module _ {S : Type 0} where
   pub walk-more : (f : S → ℕ → ℕ) (next : S → S) (n i w : ℕ) (s : S) (xs ys : List ℕ) → i < n → length xs ≡ 16 * n → w ≡ 16
       → ys ≡ to-bytes (f s (to-block (take w (drop (16 * i) xs))))
       → take (16 * (i + 1)) (putMid (16 * i) w xs ys) ++ walk f next (n - (i + 1)) (next s) (drop (16 * (i + 1)) (putMid (16 * i) w xs ys))
-        ≡ take (16 * i) xs ++ walk f next (n - i) s (drop (16 * i) xs)
+      ≡ take (16 * i) xs ++ walk f next (n - i) s (drop (16 * i) xs)
   walk-more f next n i w s xs ys h l wide e =
       let ly : length ys ≡ w = ap length e ∙ length-to-bytes (f s (to-block (take w (drop (16 * i) xs)))) ∙ sym wide in
       let e16 : ys ≡ to-bytes (f s (to-block (take 16 (drop (16 * i) xs)))) = e ∙ ap (λ (k : ℕ). to-bytes (f s (to-block (take k (drop (16 * i) xs))))) wide in

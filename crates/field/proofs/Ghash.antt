@@ -53,9 +53,9 @@ horner-modular x v h =
     let r : ℕ = reduced M 128 f in
     let s : ℕ = times 128 (c .0) M in
     let e : bitXor (mirrored 128 (horner 128 x v)) r ≡ times 128 (bitXor (c .0) (d .0)) M =
-        ap (λ (z : ℕ). bitXor z r) (c .1 ∙ xor-comm f s) ∙ xor-assoc s f r ∙ ap (bitXor s) (d .1) ∙ sym (times-xor 128 (c .0) (d .0) M) in
+    ap (λ (z : ℕ). bitXor z r) (c .1 ∙ xor-comm f s) ∙ xor-assoc s f r ∙ ap (bitXor s) (d .1) ∙ sym (times-xor 128 (c .0) (d .0) M) in
     remainder-unique M (omega arith) (omega arith) 128 (bitXor (c .0) (d .0)) (mirrored 128 (horner 128 x v)) r
-      (mirrored-below 128 (horner 128 x v)) (reduced-below M (omega arith) (omega arith) 128 f (times-below 128 (mirrored 128 x) (mirrored 128 v) (mirrored-below 128 v))) e
+    (mirrored-below 128 (horner 128 x v)) (reduced-below M (omega arith) (omega arith) 128 f (times-below 128 (mirrored 128 x) (mirrored 128 v) (mirrored-below 128 v))) e
 
 pub product-steps : (x v : ℕ) → v < 2 ^ 128 → product x v ≡ stepwise x v
 unfolding product

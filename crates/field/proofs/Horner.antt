@@ -109,7 +109,7 @@ unfolding horner
 horner-below zero x v h = omega arith
 horner-below (suc n) x v h =
     xor-lt 128 (x / 2 ^ n % 2 * v) (halved (horner n x v))
-      (digit-cases (λ (y : ℕ). y < 2 ^ 128) (x / 2 ^ n % 2) v (omega arith) (omega arith) h) (halved-below (horner n x v) (horner-below n x v h))
+    (digit-cases (λ (y : ℕ). y < 2 ^ 128) (x / 2 ^ n % 2) v (omega arith) (omega arith) h) (halved-below (horner n x v) (horner-below n x v h))
 
 horner-past : (n v : ℕ) → horner n (2 ^ n) v ≡ 0
 unfolding horner

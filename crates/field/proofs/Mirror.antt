@@ -60,7 +60,7 @@ mirrored-half w h =
     let t : mirrored 128 (w / 2) ≡ mirrored 127 (w / 2) * 2 = mirrored-suc 127 (w / 2) ∙ ap (λ (u : ℕ). mirrored 127 (w / 2) * 2 + u) z ∙ add-zero (mirrored 127 (w / 2) * 2) in
     let e : mirrored 128 w * 2 ≡ w % 2 * 2 ^ 128 + mirrored 128 (w / 2) = omega (arith, l, t) in
     let x : mirrored 128 w * 2 ≡ bitXor (mirrored 128 (w / 2)) (w % 2 * 2 ^ 128) =
-        e ∙ sym (xor-shifted (w % 2) 128 (mirrored 128 (w / 2)) (mirrored-below 128 (w / 2))) ∙ xor-comm (w % 2 * 2 ^ 128) (mirrored 128 (w / 2)) in
+    e ∙ sym (xor-shifted (w % 2) 128 (mirrored 128 (w / 2)) (mirrored-below 128 (w / 2))) ∙ xor-comm (w % 2 * 2 ^ 128) (mirrored 128 (w / 2)) in
     sym (undo (mirrored 128 (w / 2)) (w % 2 * 2 ^ 128)) ∙ ap (λ (u : ℕ). bitXor u (w % 2 * 2 ^ 128)) (sym x)
 
 mirrored-digit : (p : ℕ) → p < 2 → mirrored 128 (p * E) ≡ p * 0x87

@@ -51,9 +51,9 @@ parted n a b h =
     let small : a1 < 2 ^ n = native.Mathlib.Nat.div-lt-iff-lt-mul {k = 2} {x = a} {y = 2 ^ n} (omega arith) .1 (subst (λ (k : ℕ). a < k) (pow-suc 2 n) h) in
     let eb : b ≡ bitXor (b1 * 2) b0 = sym (xor-shifted b1 1 b0 (omega arith) ∙ omega arith) in
     let f : times n a1 b ≡ bitXor (t * 2) (b0 * a1) =
-        ap (times n a1) eb ∙ times-sum n a1 (b1 * 2) b0 ∙ ap₂ bitXor (times-shl n a1 b1 1) (times-bit n a1 b0 (omega arith) small) in
+    ap (times n a1) eb ∙ times-sum n a1 (b1 * 2) b0 ∙ ap₂ bitXor (times-shl n a1 b1 1) (times-bit n a1 b0 (omega arith) small) in
     let g : a0 * b ≡ bitXor (a0 * b1 * 2) (a0 * b0) =
-        ap (λ (x : ℕ). a0 * x) eb ∙ scale-xor a0 (b1 * 2) b0 (omega arith) ∙ ap (λ (x : ℕ). bitXor x (a0 * b0)) (sym (mul-assoc a0 b1 2)) in
+    ap (λ (x : ℕ). a0 * x) eb ∙ scale-xor a0 (b1 * 2) b0 (omega arith) ∙ ap (λ (x : ℕ). bitXor x (a0 * b0)) (sym (mul-assoc a0 b1 2)) in
     times-low n a b ∙ ap₂ bitXor g (ap (λ (x : ℕ). x * 2) f ∙ double (t * 2) (b0 * a1))
 
 around : (u w t v : ℕ) → bitXor (bitXor u w) (bitXor t v) ≡ bitXor (bitXor v w) (bitXor t u)
@@ -112,6 +112,7 @@ times-multiple (suc n) y q m h =
     let p : ℕ = y / 2 ^ n % 2 in
     let s : ℕ = q * 2 ^ n % 2 ^ (128 + n) in
     let whole : 128 + n + (128 - n) ≡ 256 = omega arith in
-    let e : times 128 q m * 2 ^ n ≡ times 256 s m = shift 128 q m n ∙ lift (128 + n) (128 - n) (q * 2 ^ n) m ∙ ap (λ (k : ℕ). times k s m) whole in
-    ( bitXor (ih .0) (p * s)
-    , (ap₂ (λ (x z : ℕ). bitXor x (p * z)) (ih .1) e ∙ ap (bitXor (times 256 (ih .0) m)) (scale 256 p s m (omega arith)) ∙ sym (times-xor 256 (ih .0) (p * s) m)) )
+    let e : times 128 q m * 2 ^ n ≡ times 256 s m = shift 128 q m n ∙ lift (128 + n) (128 - n) (q * 2 ^ n) m ∙ ap (λ (k : ℕ). times k s m) whole in (
+      bitXor (ih .0) (p * s),
+      (ap₂ (λ (x z : ℕ). bitXor x (p * z)) (ih .1) e ∙ ap (bitXor (times 256 (ih .0) m)) (scale 256 p s m (omega arith)) ∙ sym (times-xor 256 (ih .0) (p * s) m)),
+    )

@@ -35,7 +35,7 @@ entry-below h n l =
     let small : k * 2 ^ (4 * j) < 2 ^ (4 + 4 * j) = shl-lt 4 (4 * j) (omega arith) in
     let top : 2 ^ (4 + 4 * j) ≤ 2 ^ 124 = pow-mono {i = 4 + 4 * j} {j = 124} (omega arith) in
     let e : k * 2 ^ (4 * j) * 16 ≡ (n + 16) % 16 * 2 ^ (4 * ((n + 16) / 16)) =
-        mul-assoc k (2 ^ (4 * j)) 16 ∙ ap (λ (m : ℕ). k * m) (sym (pow-add 2 (4 * j) 4)) ∙ sym (ap₂ (λ (p q : ℕ). p * 2 ^ q) ek ej) in
+    mul-assoc k (2 ^ (4 * j)) 16 ∙ ap (λ (m : ℕ). k * m) (sym (pow-add 2 (4 * j) 4)) ∙ sym (ap₂ (λ (p q : ℕ). p * 2 ^ q) ek ej) in
     quarter (k * 2 ^ (4 * j)) h (omega arith) ∙ ap (λ (m : ℕ). halved (halved (halved (halved (stepwise m h))))) e
 
 -- one entry more
@@ -60,6 +60,6 @@ nibble h x j t l made =
     let four : 4 * (j + 1) ≡ 4 + 4 * j = omega arith in
     let small : lo < 2 ^ (4 * j) = native.Mathlib.Nat.mod-lt x (pow-pos (4 * j)) in
     let whole : x % 2 ^ (4 * (j + 1)) ≡ bitXor (k * 2 ^ (4 * j)) lo =
-        ap (λ (m : ℕ). x % 2 ^ m) four ∙ mod-pow-add x 4 (4 * j) ∙ sym (xor-shifted k (4 * j) lo small) in
+    ap (λ (m : ℕ). x % 2 ^ m) four ∙ mod-pow-add x 4 (4 * j) ∙ sym (xor-shifted k (4 * j) lo small) in
     xor-comm (stepwise lo h) (getD t n 0) ∙ ap (λ (y : ℕ). bitXor y (stepwise lo h)) at
     ∙ sym (stepwise-xor (k * 2 ^ (4 * j)) lo h) ∙ ap (λ (y : ℕ). stepwise y h) (sym whole)

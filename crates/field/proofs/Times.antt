@@ -33,7 +33,7 @@ times-shl zero q a k = sym (zero-mul (2 ^ k))
 times-shl (suc n) q a k =
     let p : ℕ = q / 2 ^ n % 2 in
     let e : p * (a * 2 ^ k * 2 ^ n) ≡ p * (a * 2 ^ n) * 2 ^ k =
-        ap (λ (x : ℕ). p * x) (native.Mathlib.Nat.mul-right-comm a (2 ^ k) (2 ^ n)) ∙ sym (mul-assoc p (a * 2 ^ n) (2 ^ k)) in
+    ap (λ (x : ℕ). p * x) (native.Mathlib.Nat.mul-right-comm a (2 ^ k) (2 ^ n)) ∙ sym (mul-assoc p (a * 2 ^ n) (2 ^ k)) in
     ap₂ bitXor (times-shl n q a k) e ∙ sym (shl-xor (times n q a) (p * (a * 2 ^ n)) k)
 
 pub times-zero : (n m : ℕ) → times n 0 m ≡ 0
@@ -54,7 +54,7 @@ times-low zero a b =
 times-low (suc n) a b =
     let p : ℕ = a / 2 / 2 ^ n % 2 in
     let e : a / 2 ^ suc n % 2 * (b * 2 ^ suc n) ≡ p * (b * 2 ^ n) * 2 =
-        ap₂ (λ (x y : ℕ). x % 2 * (b * y)) (sym (half-bit a n)) (pow-suc 2 n) ∙ ap (λ (x : ℕ). p * x) (sym (mul-assoc b (2 ^ n) 2)) ∙ sym (mul-assoc p (b * 2 ^ n) 2) in
+    ap₂ (λ (x y : ℕ). x % 2 * (b * y)) (sym (half-bit a n)) (pow-suc 2 n) ∙ ap (λ (x : ℕ). p * x) (sym (mul-assoc b (2 ^ n) 2)) ∙ sym (mul-assoc p (b * 2 ^ n) 2) in
     ap₂ bitXor (times-low n a b) e
     ∙ xor-assoc (a % 2 * b) (times n (a / 2) b * 2) (p * (b * 2 ^ n) * 2)
     ∙ ap (bitXor (a % 2 * b)) (sym (double (times n (a / 2) b) (p * (b * 2 ^ n))))
@@ -148,11 +148,12 @@ reduced-by m (suc n) f h =
     let p : ℕ = f / 2 ^ (128 + n) % 2 in
     let t : ℕ = p * (m * 2 ^ n) in
     let r : ℕ = reduced m n (bitXor f t) in
-    let ih : (q : ℕ) × (bitXor (bitXor f t) r ≡ times 128 q m) = reduced-by m n (bitXor f t) (omega arith) in
-    ( bitXor (p * 2 ^ n) (ih .0)
-    , (let a : bitXor f r ≡ bitXor t (bitXor (bitXor f t) r) =
-             ap (λ (x : ℕ). bitXor x r) (sym (undo f t) ∙ xor-comm (bitXor f t) t) ∙ xor-assoc t (bitXor f t) r in
-       a ∙ ap₂ bitXor (sym (times-digit 128 p n m (omega arith) (omega arith))) (ih .1) ∙ sym (times-xor 128 (p * 2 ^ n) (ih .0) m)) )
+    let ih : (q : ℕ) × (bitXor (bitXor f t) r ≡ times 128 q m) = reduced-by m n (bitXor f t) (omega arith) in (
+      bitXor (p * 2 ^ n) (ih .0),
+      (let a : bitXor f r ≡ bitXor t (bitXor (bitXor f t) r) =
+          ap (λ (x : ℕ). bitXor x r) (sym (undo f t) ∙ xor-comm (bitXor f t) t) ∙ xor-assoc t (bitXor f t) r in
+          a ∙ ap₂ bitXor (sym (times-digit 128 p n m (omega arith) (omega arith))) (ih .1) ∙ sym (times-xor 128 (p * 2 ^ n) (ih .0) m)),
+    )
 
 pub times-below : (n a b : ℕ) → b < 2 ^ 128 → times n a b < 2 ^ (128 + n)
 unfolding times
@@ -163,8 +164,8 @@ times-below (suc n) a b h =
     let lift : 2 ^ (128 + n) ≤ 2 ^ suc (128 + n) = pow-mono {i = 128 + n} {j = suc (128 + n)} (omega arith) in
     let t : times n a b < 2 ^ (128 + n) = times-below n a b h in
     subst (λ (k : ℕ). bitXor (times n a b) (a / 2 ^ n % 2 * (b * 2 ^ n)) < 2 ^ k) (sym one)
-      (xor-lt (suc (128 + n)) (times n a b) (a / 2 ^ n % 2 * (b * 2 ^ n)) (omega arith)
-        (digit-cases (λ (x : ℕ). x < 2 ^ suc (128 + n)) (a / 2 ^ n % 2) (b * 2 ^ n) (omega arith) (pow-pos (suc (128 + n))) (omega arith)))
+    (xor-lt (suc (128 + n)) (times n a b) (a / 2 ^ n % 2 * (b * 2 ^ n)) (omega arith)
+    (digit-cases (λ (x : ℕ). x < 2 ^ suc (128 + n)) (a / 2 ^ n % 2) (b * 2 ^ n) (omega arith) (pow-pos (suc (128 + n))) (omega arith)))
 
 pub remainder : Remainder
 unfolding modular

@@ -54,8 +54,7 @@ pub fn multiply(x: u128, y: u128) -> u128
 // The laws of the product, over any modulus of degree 128 where they speak of remainders.
 pub fn product_stands()
     ensures { λ _. ⌜ Product ⌝ }
-{
-}
+{}
 
 // The product of k 2^124, for k below 16, by h.
 fn top(k: u128, h: u128) -> u128
@@ -64,7 +63,12 @@ fn top(k: u128, h: u128) -> u128
     let h1 = halve(h);
     let h2 = halve(h1);
     let h3 = halve(h2);
-    add_bit(k, 0, add_bit(k, 1, add_bit(k, 2, add_bit(k, 3, 0, h), h1), h2), h3)
+    add_bit(
+        k,
+        0,
+        add_bit(k, 1, add_bit(k, 2, add_bit(k, 3, 0, h), h1), h2),
+        h3,
+    )
 }
 
 // Entry n of the table for h, from the entries behind it.
@@ -72,7 +76,11 @@ fn entry_of(h: u128, n: usize, t: &[u128; 512]) -> u128
     requires { ⌜ n < 512 ⌝ ∗ ⌜ From h (suc n) (now t) ⌝ }
     ensures { λ r. ⌜ r ≡ entry h n ⌝ }
 {
-    if n < 496 { shift(t[n + 16]) } else { top((n % 16) as u128, h) }
+    if n < 496 {
+        shift(t[n + 16])
+    } else {
+        top((n % 16) as u128, h)
+    }
 }
 
 // Entry 16 j + k is the product of k 2^(4 j) by h.

@@ -52,13 +52,15 @@ impl HalfKey {
         if second == self.card {
             return Err((self, Refusal::SameCard));
         }
-        Ok(WholeKey { value: self.card ^ second })
+        Ok(WholeKey {
+            value: self.card ^ second,
+        })
     }
 }
 
 impl WholeKey {
-    // The one way to a key without cards: a block that a cipher sealed, for the modes that draw their keys from one.
-    pub fn from_sealed(block: Block) -> WholeKey
+    // The one way to a key that no cards made: for a mode that draws its keys from what a cipher seals, and for known-answer tests.
+    pub fn without_cards(block: Block) -> WholeKey
         ensures { λ r. ⌜ r ≡ whole-key block ⌝ }
     {
         WholeKey { value: block }

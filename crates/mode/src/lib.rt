@@ -4,9 +4,15 @@ ghost use mathlib.Core.Bool.{true};
 ghost use lib.ListN.{length};
 ghost use Rattle.mode.specs.Modes.{Lawful, Sealing, mode-answer, opened-or, permitted, sealed-or, sector-size};
 ghost use Rattle.refusal.specs.Refusals.{answer};
+use block::BLOCK;
 use block::Block;
 use block::known_bytes;
 use refusal::Refusal;
+
+// A sector size is a multiple of a block from the smallest to the largest.
+pub const SMALLEST_SECTOR: usize = 32;
+
+pub const LARGEST_SECTOR: usize = 4096;
 
 pub trait Mode {
     ghost sealing: { Self → Sealing };
@@ -28,7 +34,7 @@ pub trait Mode {
 pub fn permits(len: usize) -> bool
     ensures { λ r. ⌜ r ≡ permitted len ⌝ }
 {
-    len % 16 == 0 && len >= 32 && len <= 4096
+    len % BLOCK == 0 && len >= 32 && len <= 4096
 }
 
 // Whether a length is a sector size; every mode permits a sector size.
@@ -36,7 +42,7 @@ pub fn is_sector_size(len: usize) -> bool
     ensures value { λ r. ⌜ r ≡ sector-size len ⌝ }
     ensures permitted { λ r. ⌜ (r ≡ true → permitted len ≡ true) ⌝ }
 {
-    len % 16 == 0 && len >= 32 && len <= 4096
+    len % BLOCK == 0 && len >= SMALLEST_SECTOR && len <= LARGEST_SECTOR
 }
 
 // Opening undoes sealing: the text comes back.

@@ -45,10 +45,10 @@ round-opens k p hk h =
     let b : unmixed (roundOf k p) ≡ p .1 = ap right3 (xor-back (left3 (p .1)) (mixed k (p .0) (p .1))) ∙ right3-left3 (p .1) (h .1) in
     let r : right8 (p .0) < 2 ^ 64 = omega arith in
     let a : left8 (minus (bitXor (mixed k (p .0) (p .1)) k) (unmixed (roundOf k p))) ≡ p .0 =
-          ap (λ (n : ℕ). left8 (minus n (unmixed (roundOf k p)))) (xor-back (plus (right8 (p .0)) (p .1)) k)
-          ∙ ap (λ (n : ℕ). left8 (minus (plus (right8 (p .0)) (p .1)) n)) b
-          ∙ ap left8 (minus-plus (right8 (p .0)) (p .1) r (h .1))
-          ∙ left8-right8 (p .0) (h .0) in
+    ap (λ (n : ℕ). left8 (minus n (unmixed (roundOf k p)))) (xor-back (plus (right8 (p .0)) (p .1)) k)
+    ∙ ap (λ (n : ℕ). left8 (minus (plus (right8 (p .0)) (p .1)) n)) b
+    ∙ ap left8 (minus-plus (right8 (p .0)) (p .1) r (h .1))
+    ∙ left8-right8 (p .0) (h .0) in
     λ i. (a i, b i)
 
 round-seals : (k : ℕ) (p : Pair) → k < 2 ^ 64 → Words p → roundOf k (unroundOf k p) ≡ p
@@ -59,10 +59,10 @@ round-seals k p hk h =
     let w : ℕ = bitXor (p .0) k in
     let hw : w < 2 ^ 64 = xor-lt 64 (p .0) k (h .0) hk in
     let a : mixed k (left8 (minus w y)) y ≡ p .0 =
-          ap (λ (n : ℕ). bitXor (plus n y) k) (right8-left8 (minus w y) (minus-lt w y))
-          ∙ ap (λ (n : ℕ). bitXor n k) (plus-minus w y hw hy) ∙ xor-back (p .0) k in
+    ap (λ (n : ℕ). bitXor (plus n y) k) (right8-left8 (minus w y) (minus-lt w y))
+    ∙ ap (λ (n : ℕ). bitXor n k) (plus-minus w y hw hy) ∙ xor-back (p .0) k in
     let b : bitXor (left3 y) (mixed k (left8 (minus w y)) y) ≡ p .1 =
-          ap (bitXor (left3 y)) a ∙ ap (λ (n : ℕ). bitXor n (p .0)) (left3-right3 (bitXor (p .1) (p .0)) hx) ∙ xor-back (p .1) (p .0) in
+    ap (bitXor (left3 y)) a ∙ ap (λ (n : ℕ). bitXor n (p .0)) (left3-right3 (bitXor (p .1) (p .0)) hx) ∙ xor-back (p .1) (p .0) in
     λ i. (a i, b i)
 
 pub round-laws : Rounds
@@ -135,13 +135,13 @@ unfolding sealed opened
 undone key =
     let ks : ℕ → ℕ = roundKey key in
     let fits : (i : ℕ) → i < 32 → ks i < 2 ^ 64 = λ i h. key-fits key i (omega arith) in
-    record
-      { sealed-below = λ n h. swapped-below _
-      ; opened-below = λ n h. swapped-below _
-      ; opens = λ n h.
+    record {
+      sealed-below = λ n h. swapped-below _;
+      opened-below = λ n h. swapped-below _;
+      opens = λ n h.
           ap (λ (p : Pair). blockOf (unrounds ks 32 p)) (pair-block (rounds ks 32 (pairOf n)) (rounds-words ks fits 32 (pairOf n) (omega arith) (pair-words n)))
-          ∙ ap blockOf (rounds-open ks fits 32 (pairOf n) (omega arith) (pair-words n)) ∙ block-pair n h
-      ; seals = λ n h.
+          ∙ ap blockOf (rounds-open ks fits 32 (pairOf n) (omega arith) (pair-words n)) ∙ block-pair n h;
+      seals = λ n h.
           ap (λ (p : Pair). blockOf (rounds ks 32 p)) (pair-block (unrounds ks 32 (pairOf n)) (unrounds-words ks fits 32 (pairOf n) (omega arith) (pair-words n)))
-          ∙ ap blockOf (rounds-seal ks fits 32 (pairOf n) (omega arith) (pair-words n)) ∙ block-pair n h
-      }
+          ∙ ap blockOf (rounds-seal ks fits 32 (pairOf n) (omega arith) (pair-words n)) ∙ block-pair n h;
+    }

@@ -57,8 +57,7 @@ pub fn speck_stands()
     ensures rounds { λ _. ⌜ Rounds ⌝ }
     ensures undone { λ _. ⌜ Undone ⌝ }
     ensures example { λ _. ⌜ Example ⌝ }
-{
-}
+{}
 
 // The two words of a block or a key.
 fn words(block: Block) -> (u64, u64)
@@ -140,6 +139,6 @@ pub impl Cipher for Speck128 as SpeckCipher {
     }
 
     fn draw(&self, i: u8) -> WholeKey {
-        WholeKey::from_sealed(self.seal(i as u128))
+        WholeKey::without_cards(self.seal(i as u128))
     }
 }

@@ -64,17 +64,17 @@ module _ (e e⁻ d d⁻ q : ℕ → ℕ)
       let t : take (16 * n) (L′ ++ R′) ≡ L′ = take-at L′ R′ (16 * n) ll′ in
       let dr : drop (16 * n) (L′ ++ R′) ≡ R′ = drop-at L′ R′ (16 * n) ll′ in
       let z : middle d h f n (L′ ++ R′) ≡ Z =
-          ap (λ (ys : List ℕ). bitXor (d (to-block ys)) (digest h f (blocksOf n (take (16 * n) (L′ ++ R′))))) dr
-          ∙ ap (λ (ys : List ℕ). bitXor (d (to-block R′)) (digest h f (blocksOf n ys))) t
-          ∙ ap (λ (x : ℕ). bitXor (d x) D2) (block-bytes (d⁻ W) (d⁻-fits W hw))
-          ∙ ap (λ (x : ℕ). bitXor x D2) (d-back W hw)
-          ∙ xor-back Z D2 in
+      ap (λ (ys : List ℕ). bitXor (d (to-block ys)) (digest h f (blocksOf n (take (16 * n) (L′ ++ R′))))) dr
+      ∙ ap (λ (ys : List ℕ). bitXor (d (to-block R′)) (digest h f (blocksOf n ys))) t
+      ∙ ap (λ (x : ℕ). bitXor (d x) D2) (block-bytes (d⁻ W) (d⁻-fits W hw))
+      ∙ ap (λ (x : ℕ). bitXor x D2) (d-back W hw)
+      ∙ xor-back Z D2 in
       let back : streamed q Z n L′ ≡ L = streamed-back q q-fits Z n L hz hn (all-take (λ x. x < 256) (16 * n) xs u) (length-take-le (16 * n) xs (omega arith)) in
       let last : to-bytes (e⁻ (bitXor Z (digest h p (blocksOf n (streamed q Z n L′))))) ≡ R =
-          ap (λ (ys : List ℕ). to-bytes (e⁻ (bitXor Z (digest h p (blocksOf n ys))))) back
-          ∙ ap (λ (x : ℕ). to-bytes (e⁻ x)) (xor-back (e r) D1)
-          ∙ ap (to-bytes) (e-back r hr)
-          ∙ bytes-block R ur lr in
+      ap (λ (ys : List ℕ). to-bytes (e⁻ (bitXor Z (digest h p (blocksOf n ys))))) back
+      ∙ ap (λ (x : ℕ). to-bytes (e⁻ x)) (xor-back (e r) D1)
+      ∙ ap (to-bytes) (e-back r hr)
+      ∙ bytes-block R ur lr in
       ap (λ (x : ℕ). finished e⁻ q h p n x (take (16 * n) (L′ ++ R′))) z
       ∙ ap (finished e⁻ q h p n Z) t
       ∙ ap (λ (ys : List ℕ). ys ++ to-bytes (e⁻ (bitXor Z (digest h p (blocksOf n (streamed q Z n L′)))))) back
@@ -87,9 +87,10 @@ passed-is e d q h fs n xs =
     let Z : ℕ = middle e h (fs .before) n xs in
     let L′ : List ℕ = streamed q Z n (take (16 * n) xs) in
     let w : ℕ = d (bitXor Z (digest h (fs .after) (blocksOf n L′))) in
-    let l1 : length L′ ≡ 16 * n = length-walk (counted q Z) next n 0 (take (16 * n) xs) in
-    ( all-append (λ x. x < 256) L′ (to-bytes w) (under-walk (counted q Z) next n 0 (take (16 * n) xs)) (under-to-bytes w)
-    , length-append L′ (to-bytes w) ∙ ap (λ (k : ℕ). k + length (to-bytes w)) l1 ∙ ap (λ (k : ℕ). 16 * n + k) (length-to-bytes w) )
+    let l1 : length L′ ≡ 16 * n = length-walk (counted q Z) next n 0 (take (16 * n) xs) in (
+      all-append (λ x. x < 256) L′ (to-bytes w) (under-walk (counted q Z) next n 0 (take (16 * n) xs)) (under-to-bytes w),
+      length-append L′ (to-bytes w) ∙ ap (λ (k : ℕ). k + length (to-bytes w)) l1 ∙ ap (λ (k : ℕ). 16 * n + k) (length-to-bytes w),
+    )
 
 -- the blocks of a permitted length but the last
 pub blocks-but-last : (m : ℕ) → permitted m ≡ true → (m ≡ 16 * (m / 16 - 1) + 16) × (m / 16 - 1 ≤ 255)
@@ -118,11 +119,11 @@ pub undone : Undone
 undone e e⁻ d d⁻ q q⁻ h le ld lq =
     let sealed = turned-is e d⁻ q h sealing-frames in
     let opened = turned-is d e⁻ q h opening-frames in
-    record
-      { opens = λ t xs s x. turned-back e e⁻ d d⁻ q q⁻ le ld lq h (λ s n. outer s) inner t xs (x .bytes) (x .fits)
-      ; seals = λ t xs s x. turned-back d d⁻ e e⁻ q q⁻ ld le lq h inner (λ s n. outer s) t xs (x .bytes) (x .fits)
-      ; sealed-length = λ t xs s x. sealed t xs (x .fits) .1
-      ; opened-length = λ t xs s x. opened t xs (x .fits) .1
-      ; sealed-bytes = λ t xs s x. sealed t xs (x .fits) .0
-      ; opened-bytes = λ t xs s x. opened t xs (x .fits) .0
-      }
+    record {
+      opens = λ t xs s x. turned-back e e⁻ d d⁻ q q⁻ le ld lq h (λ s n. outer s) inner t xs (x .bytes) (x .fits);
+      seals = λ t xs s x. turned-back d d⁻ e e⁻ q q⁻ ld le lq h inner (λ s n. outer s) t xs (x .bytes) (x .fits);
+      sealed-length = λ t xs s x. sealed t xs (x .fits) .1;
+      opened-length = λ t xs s x. opened t xs (x .fits) .1;
+      sealed-bytes = λ t xs s x. sealed t xs (x .fits) .0;
+      opened-bytes = λ t xs s x. opened t xs (x .fits) .0;
+    }

@@ -8,7 +8,8 @@ use lib.ListN.{take, drop, length, length-append, length-drop}
 use lib.Seq.{take-at, drop-at}
 use borrow.Rule.Slice.PartMut.{putMid, postOf}
 use Rattle.std.proofs.shelf.Lists.{length-take-le, take-all, nil-from-length, append-nil}
-use Rattle.block.specs.Blocks.{blocksOf, to-bytes, to-block}
+use Rattle.block.specs.Blocks.{blocksOf, to-bytes, to-block, loaded, stored}
+use Rattle.block.proofs.Parts.{loaded-is, stored-is}
 use Rattle.block.proofs.Bytes.{length-to-bytes}
 use Rattle.block.proofs.Walks.{length-walk}
 use Rattle.xcb.specs.declared.Frames.{Frames}
@@ -24,12 +25,12 @@ put-end m w left p right l e =
     ∙ ap (λ (ys : List ℕ). left ++ ys) (append-nil right)
 
 -- the last block before the stream, and behind it
-pub last-long : (n : ℕ) (xs : List ℕ) → length xs ≡ 16 * n + 16 → length (take (16 * n + 16 - 16 * n) (drop (16 * n) xs)) ≡ 16
+last-long : (n : ℕ) (xs : List ℕ) → length xs ≡ 16 * n + 16 → length (take (16 * n + 16 - 16 * n) (drop (16 * n) xs)) ≡ 16
 last-long n xs l =
     let d = length-drop (16 * n) xs in
     length-take-le (16 * n + 16 - 16 * n) (drop (16 * n) xs) (omega arith) ∙ omega arith
 
-pub end-long : (q : ℕ → ℕ) (z n : ℕ) (xs left : List ℕ) → length xs ≡ 16 * n + 16 → left ≡ streamed q z n (take (16 * n - 0) xs)
+end-long : (q : ℕ → ℕ) (z n : ℕ) (xs left : List ℕ) → length xs ≡ 16 * n + 16 → left ≡ streamed q z n (take (16 * n - 0) xs)
     → length (take (16 * n + 16 - 16 * n) (drop (16 * n) (left ++ postOf 0 (16 * n - 0) xs))) ≡ 16
 end-long q z n xs left l e =
     let ll : length left ≡ 16 * n = ap length e ∙ length-walk (counted q z) next n 0 (take (16 * n - 0) xs) in
@@ -37,17 +38,15 @@ end-long q z n xs left l e =
     last-long n (left ++ postOf 0 (16 * n - 0) xs) (length-append left (postOf 0 (16 * n - 0) xs) ∙ omega arith)
 
 module _ (e o q : ℕ → ℕ) (h : ℕ) (fs : Frames) (n : ℕ) (xs : List ℕ) (long : length xs ≡ 16 * n + 16) where
-  pub pass-is : (r sealed d1 d2 w : ℕ) (left right : List ℕ)
-      → r ≡ to-block (take (16 * n + 16 - 16 * n) (drop (16 * n) xs))
-      → sealed ≡ e r
+  pub pass-is : (sealed d1 d2 : ℕ) (left right : List ℕ)
+      → sealed ≡ e (loaded (take (16 * n + 16 - 16 * n) (drop (16 * n) xs)))
       → d1 ≡ digest h (fs .before) (blocksOf n (take (16 * n - 0) xs))
       → left ≡ streamed q (bitXor sealed d1) n (take (16 * n - 0) xs)
       → d2 ≡ digest h (fs .after) (blocksOf n (take (16 * n - 0) (left ++ postOf 0 (16 * n - 0) xs)))
-      → w ≡ o (bitXor (bitXor sealed d1) d2)
-      → right ≡ to-bytes w
+      → right ≡ stored (take (16 * n + 16 - 16 * n) (drop (16 * n) (left ++ postOf 0 (16 * n - 0) xs))) (o (bitXor (bitXor sealed d1) d2))
       → putMid (16 * n) (16 * n + 16 - 16 * n) (left ++ postOf 0 (16 * n - 0) xs) right ≡ passed e o q h fs n xs
   unfolding passed finished middle
-  pass-is r sealed d1 d2 w left right a1 a2 a3 a4 a5 a6 a7 =
+  pass-is sealed d1 d2 left right a2 a3 a4 a5 a7 =
       let m : ℕ = 16 * n in
       let k : 16 * n - 0 ≡ 16 * n = omega arith in
       let L : List ℕ = take (16 * n) xs in
@@ -55,7 +54,7 @@ module _ (e o q : ℕ → ℕ) (h : ℕ) (fs : Frames) (n : ℕ) (xs : List ℕ)
       let ld : length (drop (16 * n) xs) ≡ 16 = length-drop (16 * n) xs ∙ omega arith in
       let end : take (16 * n + 16 - 16 * n) (drop (16 * n) xs) ≡ drop (16 * n) xs = take-all (16 * n + 16 - 16 * n) (drop (16 * n) xs) (omega arith) in
       let Z : ℕ = middle e h (fs .before) n xs in
-      let z1 : sealed ≡ e (to-block (drop (16 * n) xs)) = a2 ∙ ap e (a1 ∙ ap (to-block) end) in
+      let z1 : sealed ≡ e (to-block (drop (16 * n) xs)) = a2 ∙ ap e (loaded-is _ (last-long n xs long) ∙ ap (to-block) end) in
       let z2 : d1 ≡ digest h (fs .before) (blocksOf n L) = a3 ∙ ap (λ (ys : List ℕ). digest h (fs .before) (blocksOf n ys)) kl in
       let z : bitXor sealed d1 ≡ Z = ap (λ (x : ℕ). bitXor x d1) z1 ∙ ap (bitXor (e (to-block (drop (16 * n) xs)))) z2 in
       let l1 : left ≡ streamed q Z n L = a4 ∙ ap (λ (ys : List ℕ). streamed q (bitXor sealed d1) n ys) kl ∙ ap (λ (x : ℕ). streamed q x n L) z in
@@ -64,7 +63,8 @@ module _ (e o q : ℕ → ℕ) (h : ℕ) (fs : Frames) (n : ℕ) (xs : List ℕ)
       let lp : length p ≡ 16 * n + 16 - 16 * n = length-drop (16 * n - 0) xs ∙ omega arith in
       let t : take (16 * n - 0) (left ++ p) ≡ left = take-at left p (16 * n - 0) (ll ∙ sym k) in
       let z3 : d2 ≡ digest h (fs .after) (blocksOf n (streamed q Z n L)) = a5 ∙ ap (λ (ys : List ℕ). digest h (fs .after) (blocksOf n ys)) (t ∙ l1) in
-      let w1 : w ≡ o (bitXor Z (digest h (fs .after) (blocksOf n (streamed q Z n L)))) = a6 ∙ ap (λ (x : ℕ). o (bitXor x d2)) z ∙ ap (λ (x : ℕ). o (bitXor Z x)) z3 in
+      let w : ℕ = o (bitXor (bitXor sealed d1) d2) in
+      let w1 : w ≡ o (bitXor Z (digest h (fs .after) (blocksOf n (streamed q Z n L)))) = ap (λ (x : ℕ). o (bitXor x d2)) z ∙ ap (λ (x : ℕ). o (bitXor Z x)) z3 in
       put-end (16 * n) (16 * n + 16 - 16 * n) left p right ll lp
       ∙ ap (λ (ys : List ℕ). ys ++ right) l1
-      ∙ ap (λ (ys : List ℕ). streamed q Z n L ++ ys) (a7 ∙ ap (to-bytes) w1)
+      ∙ ap (λ (ys : List ℕ). streamed q Z n L ++ ys) (a7 ∙ stored-is _ w (end-long q (bitXor sealed d1) n xs left long a4) ∙ ap (to-bytes) w1)

@@ -70,10 +70,10 @@ turned e d c h fs t xs = passed e d c h (fs t (length xs / 16 - 1)) (length xs /
 -- XCB by the functions of Ke, Kd and Kc, and by Kh: sealing seals MR under Ke and opens under Kd, opening seals under Kd and opens under Ke
 abbrev pub by-functions : (ℕ → ℕ) → (ℕ → ℕ) → (ℕ → ℕ) → (ℕ → ℕ) → (ℕ → ℕ) → ℕ → Sealing
 by-functions e e⁻ d d⁻ c h =
-    record
-      { sealed = λ t xs. turned e d⁻ c h sealing-frames t xs
-      ; opened = λ t xs. turned d e⁻ c h opening-frames t xs
-      }
+    record {
+      sealed = λ t xs. turned e d⁻ c h sealing-frames t xs;
+      opened = λ t xs. turned d e⁻ c h opening-frames t xs;
+    }
 
 -- XCB under a key: Kh is the sealing of Num(0), and Ke, Kd and Kc are drawn from Num(1), Num(3) and Num(5) on
 abbrev pub xcb : {C Key : Type 0} → CipherMeaning C Key → Key → Sealing

@@ -76,24 +76,49 @@ fn stream<C: Cipher>(cipher: &C, z: Block, part: &mut [u8], n: usize)
     }
 }
 
+// The last block of a text, sealed.
+fn seal_last<C: Cipher>(front: &C, part: &[u8]) -> Block
+    ensures { λ r. ⌜ r ≡ sealing C·Cipher (now (front .entry)) (loaded (now (part .entry))) ⌝ }
+{
+    front.seal(load(part))
+}
+
+// The last block of the result: what opening makes of w.
+fn open_last<C: Cipher>(back: &C, w: Block, part: &mut [u8])
+    ensures { λ _. ⌜ now (part .exit) ≡ stored (now (part .entry)) (opening C·Cipher (now (back .entry)) w) ⌝ }
+{
+    store(part, back.open(w));
+}
+
 // The whole way over a text of n blocks and the last one: `front` seals the last block, `back` opens it again at the end.
-fn pass<C: Cipher>(front: &C, back: &C, counter: &C, key: &HashKey, frames: Frames, text: &mut [u8], n: usize)
+fn pass<C: Cipher>(
+    front: &C,
+    back: &C,
+    counter: &C,
+    key: &HashKey,
+    frames: Frames,
+    text: &mut [u8],
+    n: usize,
+)
     requires { ⌜ length (now text) ≡ 16 * n + 16 ⌝ ∗ ⌜ n ≤ 255 ⌝ }
     ensures { λ _. ⌜ now (text .exit) ≡ passed (sealing C·Cipher (now (front .entry))) (opening C·Cipher (now (back .entry))) (sealing C·Cipher (now (counter .entry))) (now (key .entry) .h) frames n (now (text .entry)) ⌝ }
 {
     let m = BLOCK * n;
-    let last = load(&text[m..m + BLOCK]);
-    let z = front.seal(last) ^ framed_hash(key, frames.before, &text[0..m], n);
+    let z = seal_last(front, &text[m..m + BLOCK]) ^ framed_hash(key, frames.before, &text[0..m], n);
     stream(counter, z, &mut text[0..m], n);
     let w = z ^ framed_hash(key, frames.after, &text[0..m], n);
-    store(&mut text[m..m + BLOCK], back.open(w));
+    open_last(back, w, &mut text[m..m + BLOCK]);
 }
 
 // Around the left part as it stands in the plain text.
 fn outer_frame(tweak: Block) -> Frame
     ensures { λ r. ⌜ r ≡ outer tweak ⌝ }
 {
-    Frame { first: 0, second: tweak, last: 0 }
+    Frame {
+        first: 0,
+        second: tweak,
+        last: 0,
+    }
 }
 
 // The bits of the tweak frame and of the left part of n blocks.
@@ -110,21 +135,31 @@ fn inner_frame(tweak: Block, n: usize) -> Frame
     requires { ⌜ n ≤ 255 ⌝ }
     ensures { λ r. ⌜ r ≡ inner tweak n ⌝ }
 {
-    Frame { first: tweak, second: 0, last: lengths(n) }
+    Frame {
+        first: tweak,
+        second: 0,
+        last: lengths(n),
+    }
 }
 
 fn frames_to_seal(tweak: Block, n: usize) -> Frames
     requires { ⌜ n ≤ 255 ⌝ }
     ensures { λ r. ⌜ r ≡ sealing-frames tweak n ⌝ }
 {
-    Frames { before: outer_frame(tweak), after: inner_frame(tweak, n) }
+    Frames {
+        before: outer_frame(tweak),
+        after: inner_frame(tweak, n),
+    }
 }
 
 fn frames_to_open(tweak: Block, n: usize) -> Frames
     requires { ⌜ n ≤ 255 ⌝ }
     ensures { λ r. ⌜ r ≡ opening-frames tweak n ⌝ }
 {
-    Frames { before: inner_frame(tweak, n), after: outer_frame(tweak) }
+    Frames {
+        before: inner_frame(tweak, n),
+        after: outer_frame(tweak),
+    }
 }
 
 // Kh with its table, and ciphers under Ke, Kd and Kc.
@@ -160,7 +195,15 @@ pub impl<C: Cipher> Mode for Xcb<C> as XcbMode {
             return Err(Refusal::Length);
         }
         let n = len / BLOCK - 1;
-        pass(&self.front, &self.back, &self.counter, &self.hash_key, frames_to_seal(tweak, n), text, n);
+        pass(
+            &self.front,
+            &self.back,
+            &self.counter,
+            &self.hash_key,
+            frames_to_seal(tweak, n),
+            text,
+            n,
+        );
         Ok(())
     }
 
@@ -170,7 +213,15 @@ pub impl<C: Cipher> Mode for Xcb<C> as XcbMode {
             return Err(Refusal::Length);
         }
         let n = len / BLOCK - 1;
-        pass(&self.back, &self.front, &self.counter, &self.hash_key, frames_to_open(tweak, n), text, n);
+        pass(
+            &self.back,
+            &self.front,
+            &self.counter,
+            &self.hash_key,
+            frames_to_open(tweak, n),
+            text,
+            n,
+        );
         Ok(())
     }
 }
@@ -178,8 +229,7 @@ pub impl<C: Cipher> Mode for Xcb<C> as XcbMode {
 // XCB over any cipher opens what it sealed and seals what it opened.
 pub fn xcb_stands()
     ensures { λ _. ⌜ Undone ⌝ }
-{
-}
+{}
 
 // The modes of two wands, each from its own key; where the keys are equal, the modes seal alike at every size.
 pub fn new_pair<C: Cipher + Drop>(key: C::Key, key2: C::Key) -> (Xcb<C>, Xcb<C>)

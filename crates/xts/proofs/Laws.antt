@@ -39,11 +39,11 @@ blockwise-is e t xs p =
 pub undone : Undone
 undone e d t₀ o l second =
     let small = second .sealed-below in
-    record
-      { opens = λ t xs h x. blockwise-back e d (l .sealed-below) (l .opens) (t₀ t) xs (small t h) (x .bytes) (x .fits)
-      ; seals = λ t xs h x. blockwise-back d e (l .opened-below) (l .seals) (t₀ t) xs (small t h) (x .bytes) (x .fits)
-      ; sealed-length = λ t xs h x. blockwise-is e (t₀ t) xs (x .fits) .1
-      ; opened-length = λ t xs h x. blockwise-is d (t₀ t) xs (x .fits) .1
-      ; sealed-bytes = λ t xs h x. blockwise-is e (t₀ t) xs (x .fits) .0
-      ; opened-bytes = λ t xs h x. blockwise-is d (t₀ t) xs (x .fits) .0
-      }
+    record {
+      opens = λ t xs h x. blockwise-back e d (l .sealed-below) (l .opens) (t₀ t) xs (small t h) (x .bytes) (x .fits);
+      seals = λ t xs h x. blockwise-back d e (l .opened-below) (l .seals) (t₀ t) xs (small t h) (x .bytes) (x .fits);
+      sealed-length = λ t xs h x. blockwise-is e (t₀ t) xs (x .fits) .1;
+      opened-length = λ t xs h x. blockwise-is d (t₀ t) xs (x .fits) .1;
+      sealed-bytes = λ t xs h x. blockwise-is e (t₀ t) xs (x .fits) .0;
+      opened-bytes = λ t xs h x. blockwise-is d (t₀ t) xs (x .fits) .0;
+    }

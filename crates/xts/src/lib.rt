@@ -85,7 +85,10 @@ impl<C: Cipher> Xts<C> {
     pub fn new(first: C::Key, second: C::Key) -> Xts<C>
         ensures { λ r. ⌜ meaning C·Cipher r ≡ xts C·Cipher first second ⌝ }
     {
-        Xts { first: C::new(first), second: C::new(second) }
+        Xts {
+            first: C::new(first),
+            second: C::new(second),
+        }
     }
 
     // The whole text, or a refusal of its length.
@@ -118,11 +121,15 @@ pub impl<C: Cipher> Mode for Xts<C> as XtsMode {
 // XTS over any cipher opens what it sealed and seals what it opened.
 pub fn xts_stands()
     ensures { λ _. ⌜ Undone ⌝ }
-{
-}
+{}
 
 // The modes of two wands, each from its own keys; where the keys are equal, the modes seal alike at every size.
-pub fn new_pair<C: Cipher>(first: C::Key, second: C::Key, first2: C::Key, second2: C::Key) -> (Xts<C>, Xts<C>)
+pub fn new_pair<C: Cipher>(
+    first: C::Key,
+    second: C::Key,
+    first2: C::Key,
+    second2: C::Key,
+) -> (Xts<C>, Xts<C>)
     ensures one { λ r. ⌜ meaning C·Cipher (r .0) ≡ xts C·Cipher first second ⌝ }
     ensures other { λ r. ⌜ meaning C·Cipher (r .1) ≡ xts C·Cipher first2 second2 ⌝ }
     ensures alike { λ r. ⌜ (first ≡ first2 → second ≡ second2 → (size : ℕ) → Alike size (meaning C·Cipher (r .0)) (meaning C·Cipher (r .1))) ⌝ }

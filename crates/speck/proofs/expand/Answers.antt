@@ -17,10 +17,11 @@ loop-i-again c =
     let p : Pair = c .words-l .result in
     let i = c .loop-i .i in
     let r : c .round-x .result ≡ scheduled p (c .loop-i .i + 1) = c .round-x .ensures ∙ ap (roundOf (c .loop-i .i)) (c .loop-i .inv .1) ∙ sym (scheduled-more p (c .loop-i .i)) in
-    let lt : c .loop-i .i + 1 < length (c .loop-i .keys) = omega arith in
-    ( length-set (c .loop-i .keys) (c .loop-i .i + 1) (c .round-x .result .1) ∙ c .loop-i .inv .0
-    , r
-    , table-more (λ (j : ℕ). scheduled p j .1) (c .loop-i .keys) i (c .round-x .result .1) lt (ap (λ (q : Pair). q .1) r) (c .loop-i .inv .2) )
+    let lt : c .loop-i .i + 1 < length (c .loop-i .keys) = omega arith in (
+      length-set (c .loop-i .keys) (c .loop-i .i + 1) (c .round-x .result .1) ∙ c .loop-i .inv .0,
+      r,
+      table-more (λ (j : ℕ). scheduled p j .1) (c .loop-i .keys) i (c .round-x .result .1) lt (ap (λ (q : Pair). q .1) r) (c .loop-i .inv .2),
+    )
 
 pub returns : need.returns
 returns c =

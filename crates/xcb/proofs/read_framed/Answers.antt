@@ -16,10 +16,11 @@ loop-i-again c =
     let n = c .args .n in
     let xs = c .args .part .now in
     let out = c .loop-i .framed in
-    let within : i + 2 < length out = omega (arith, c .loop-i .inv .0, c .pre .1) in
-    ( length-set out (i + 2) (c .load .result) ∙ c .loop-i .inv .0
-    , ap (λ (k : ℕ). take k (set out (i + 2) (c .load .result)) ++ blocksOf (n - (i + 1)) (drop (16 * (i + 1)) xs)) (omega arith)
-      ∙ blocks-more n i (i + 2) (16 * i + 16 - 16 * i) (c .load .result) out xs (c .loop-i-test .taken) within (omega arith) (c .load .ensures ∙ loaded-is (take (16 * i + 16 - 16 * i) (drop (16 * i) xs)) (part-long n i (16 * i + 16 - 16 * i) xs (c .loop-i-test .taken) (c .pre .0) (omega arith))) ∙ c .loop-i .inv .1 )
+    let within : i + 2 < length out = omega (arith, c .loop-i .inv .0, c .pre .1) in (
+      length-set out (i + 2) (c .load .result) ∙ c .loop-i .inv .0,
+      ap (λ (k : ℕ). take k (set out (i + 2) (c .load .result)) ++ blocksOf (n - (i + 1)) (drop (16 * (i + 1)) xs)) (omega arith)
+          ∙ blocks-more n i (i + 2) (16 * i + 16 - 16 * i) (c .load .result) out xs (c .loop-i-test .taken) within (omega arith) (c .load .ensures ∙ loaded-is (take (16 * i + 16 - 16 * i) (drop (16 * i) xs)) (part-long n i (16 * i + 16 - 16 * i) xs (c .loop-i-test .taken) (c .pre .0) (omega arith))) ∙ c .loop-i .inv .1,
+    )
 
 pub returns : need.returns
 returns c =

@@ -16,7 +16,7 @@ loop-i-again g c =
     let long : length (c .loop-i .part) ≡ 16 * c .args .n = c .loop-i .kept .part ∙ c .pre in
     let ys = c .stream-block .last .part in
     walk-more f next n i w i (c .loop-i .part) ys (c .loop-i-test .taken) long (omega arith)
-      (walked-part f n i w i (c .loop-i .part) ys (c .loop-i-test .taken) long (omega arith) (c .stream-block .ensures))
+    (walked-part f n i w i (c .loop-i .part) ys (c .loop-i-test .taken) long (omega arith) (c .stream-block .ensures))
     ∙ c .loop-i .inv
 
 pub returns : need.returns

@@ -8,8 +8,8 @@ returns g c =
     let k = g .C·Cipher in
     let second = c .args .second in
     let first2 = c .args .first2 in
-    record
-      { one = c .new .ensures
-      ; other = c .new-2 .ensures
-      ; alike = λ e f size. same-alike size _ _ (c .new .ensures ∙ ap (λ x. xts k x second) e ∙ ap (λ x. xts k first2 x) f ∙ sym (c .new-2 .ensures))
-      }
+    record {
+      one = c .new .ensures;
+      other = c .new-2 .ensures;
+      alike = λ e f size. same-alike size _ _ (c .new .ensures ∙ ap (λ x. xts k x second) e ∙ ap (λ x. xts k first2 x) f ∙ sym (c .new-2 .ensures));
+    }

@@ -21,7 +21,7 @@ loop-i-again g c =
     let s′ = putMid (16 * i) w (c .loop-i .text) ys in
     ap (λ (t : ℕ). take (16 * (i + 1)) s′ ++ walk f doubled (n - (i + 1)) t (drop (16 * (i + 1)) s′)) (c .double-mask .ensures)
     ∙ walk-more f doubled n i w (c .loop-i .mask) (c .loop-i .text) ys (c .loop-i-test .taken) long (omega arith)
-      (walked-part f n i w (c .loop-i .mask) (c .loop-i .text) ys (c .loop-i-test .taken) long (omega arith) (c .turn-block .ensures))
+    (walked-part f n i w (c .loop-i .mask) (c .loop-i .text) ys (c .loop-i-test .taken) long (omega arith) (c .turn-block .ensures))
     ∙ c .loop-i .inv
 
 pub returns : need.returns

@@ -21,10 +21,11 @@ loop-j-again c =
     let s = c .args .self .now in
     let x = c .args .x in
     let j = c .loop-j .j in
-    let four : 4 * j + 4 ≡ 4 * (j + 1) = omega arith in
-    ( ap (λ (r : ℕ). r / 16) (c .loop-j .inv .0) ∙ shr-shr x (4 * j) 4 ∙ ap (λ (m : ℕ). x / 2 ^ m) four
-    , ap₂ (λ (z r : ℕ). bitXor z (getD (s .table) (16 * j + r % 16) 0)) (c .loop-j .inv .1) (c .loop-j .inv .0)
-      ∙ nibble (s .h) x j (s .table) (c .loop-j-test .taken) (s .made) )
+    let four : 4 * j + 4 ≡ 4 * (j + 1) = omega arith in (
+      ap (λ (r : ℕ). r / 16) (c .loop-j .inv .0) ∙ shr-shr x (4 * j) 4 ∙ ap (λ (m : ℕ). x / 2 ^ m) four,
+      ap₂ (λ (z r : ℕ). bitXor z (getD (s .table) (16 * j + r % 16) 0)) (c .loop-j .inv .1) (c .loop-j .inv .0)
+          ∙ nibble (s .h) x j (s .table) (c .loop-j-test .taken) (s .made),
+    )
 
 pub returns : need.returns
 returns c =

@@ -12,7 +12,8 @@ returns c =
     let first = c .args .self .card in
     let second = c .in-Some .second in
     let hs : c .in-Some .second < 2 ^ 128 = search needs in
-    let hf : c .args .self .card < 2 ^ 128 = search needs in
-    ( w .long
-    , (λ e. c .if-second-self .left (same-bytes second first hs hf (w .bytes ∙ e)))
-    , xor-to-bytes first second ∙ ap (xorBytes (to-bytes first)) (w .bytes) )
+    let hf : c .args .self .card < 2 ^ 128 = search needs in (
+      w .long,
+      (λ e. c .if-second-self .left (same-bytes second first hs hf (w .bytes ∙ e))),
+      xor-to-bytes first second ∙ ap (xorBytes (to-bytes first)) (w .bytes),
+    )

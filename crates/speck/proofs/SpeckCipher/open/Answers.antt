@@ -25,7 +25,7 @@ returns c =
     let e : c .loop-i .i ≡ 0 = omega arith in
     c .joined .ensures
     ∙ ap blockOf (sym (unrounds-none ks (c .loop-i .left, c .loop-i .right))
-      ∙ ap (λ (n : ℕ). unrounds ks n (c .loop-i .left, c .loop-i .right)) (sym e)
-      ∙ c .loop-i .inv
-      ∙ ap (unrounds ks 32) (c .words-x .ensures)
-      ∙ unrounds-same ks (roundKey key) 32 (pairOf (c .args .block)) (c .args .self .now .expanded))
+    ∙ ap (λ (n : ℕ). unrounds ks n (c .loop-i .left, c .loop-i .right)) (sym e)
+    ∙ c .loop-i .inv
+    ∙ ap (unrounds ks 32) (c .words-x .ensures)
+    ∙ unrounds-same ks (roundKey key) 32 (pairOf (c .args .block)) (c .args .self .now .expanded))

@@ -22,6 +22,6 @@ returns c =
     let e : c .loop-i .i ≡ 32 = omega arith in
     c .joined .ensures
     ∙ ap blockOf (c .loop-i .inv
-      ∙ ap (λ (n : ℕ). rounds ks n (c .words-x .result)) e
-      ∙ ap (rounds ks 32) (c .words-x .ensures)
-      ∙ rounds-same ks (roundKey key) 32 (pairOf (c .args .block)) (c .args .self .now .expanded))
+    ∙ ap (λ (n : ℕ). rounds ks n (c .words-x .result)) e
+    ∙ ap (rounds ks 32) (c .words-x .ensures)
+    ∙ rounds-same ks (roundKey key) 32 (pairOf (c .args .block)) (c .args .self .now .expanded))
