@@ -1,0 +1,5 @@
+use Rattle.hex.proofs.Codes as codes
+use Rattle.hex.proofs.laws.Needs as need
+
+pub returns : need.returns
+returns c = record { back = codes.back; only = codes.only }
