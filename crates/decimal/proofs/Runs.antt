@@ -1,12 +1,12 @@
 -- Runs of digits, and the number that they write.
-use Prim.Native.Nat.{ℕ, zero, suc, _+_, _-_, _*_, _^_, _≤_, _<_}
+use Prim.Native.Nat.{ℕ, zero, suc, _+_, _-_, _*_, _≤_, _<_}
 use native.Mathlib.Nat.{le-of-suc-le-suc, not-suc-le-zero}
 use native.Mathlib.Omega.{arith}
 use mathlib.Core.List.{List, [], _∷_, _++_}
 use mathlib.Core.Path.{_≡_, refl, ap, sym, subst, _∙_}
 use lib.ListN.{length, getD, take, drop}
 use Rattle.std.proofs.shelf.Lists.{take-more, drop-more, drop-all, take-append-drop, take-rest}
-use Rattle.decimal.specs.Decimal.{Begins, Digit, Digits, NoDigit, Numeral, decimal}
+use Rattle.decimal.specs.Decimal.{Begins, Digit, Digits, NoDigit, decimal}
 
 pub digits-push : (xs : List ℕ) (c : ℕ) → Digits xs → Digit c → Digits (xs ++ c ∷ [])
 digits-push [] c d h = (h, tt)

@@ -1,6 +1,8 @@
 // Why a call is turned down. One enum serves every crate; `number` gives what buyers' forms and programs print.
 ghost use mathlib.Core.Path.{_≡_};
 ghost use Rattle.refusal.specs.Refusals.{numberOf};
+use std::error::Error;
+use std::fmt;
 
 #[derive(Clone, Copy, PartialEq, Eq, Debug)]
 pub enum Refusal {
@@ -23,3 +25,15 @@ impl Refusal {
         }
     }
 }
+
+pub impl fmt::Display for Refusal as RefusalDisplay {
+    fn fmt<W: fmt::Write>(&self, f: &mut fmt::Formatter<W>) -> fmt::Result {
+        f.pad(match *self {
+            Refusal::Length => "refused, 1: the mode does not permit the length",
+            Refusal::NotACard => "refused, 5: the card is not of 16 bytes",
+            Refusal::SameCard => "refused, 6: the second card equals the first",
+        })
+    }
+}
+
+pub impl Error for Refusal as RefusalError {}

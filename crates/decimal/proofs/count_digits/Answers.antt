@@ -1,4 +1,4 @@
-use borrow.Author.Needs.{needs}
+-- A turn counts one digit more; the count ends at what is no digit.
 use native.Mathlib.Omega.{arith}
 use Rattle.decimal.proofs.Runs.{digits-more, no-digit-at, no-digit-end}
 use Rattle.decimal.proofs.count_digits.Needs as need

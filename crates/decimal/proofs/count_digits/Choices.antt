@@ -1,3 +1,4 @@
+-- Only digits so far.
 use Prim.Native.Nat.{_-_, _≤_}
 use lib.ListN.{length, take}
 use Rattle.decimal.specs.Decimal.{Digits}

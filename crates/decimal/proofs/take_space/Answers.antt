@@ -1,4 +1,4 @@
-use native.Mathlib.Omega.{arith}
+-- The first character is a space, and the rest follows it.
 use borrow.Author.Needs.{needs}
 use mathlib.Core.Path.{_≡_, ap, _∙_}
 use Prim.Native.Nat.{ℕ, _-_, _<_}

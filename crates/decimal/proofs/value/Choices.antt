@@ -1,3 +1,4 @@
+-- The value of the digits so far, within the limit.
 use Prim.Native.Nat.{_≤_}
 use mathlib.Core.Path.{_≡_}
 use lib.ListN.{take}

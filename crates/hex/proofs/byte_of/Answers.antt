@@ -1,3 +1,4 @@
+-- Where one of the two is no digit, they write no byte.
 use Prim.Native.Nat.{_/_, _%_}
 use Rattle.hex.proofs.byte_of.Needs as need
 

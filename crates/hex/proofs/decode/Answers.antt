@@ -1,7 +1,6 @@
 -- A turn reads the two digits of one byte more; where they are no digits, no bytes are read from the text.
 use Prim.Native.Nat.{_*_}
 use native.Mathlib.Omega.{arith}
-use mathlib.Core.List.{List}
 use mathlib.Core.Path.{subst}
 use Rattle.std.proofs.shelf.Lists.{take-all}
 use Rattle.std.specs.Of.Vec.{vec-items}

@@ -1,3 +1,4 @@
+-- The bytes of the digits so far.
 use Prim.Native.Nat.{_*_}
 use lib.ListN.{take}
 use Rattle.std.specs.Of.Vec.{vec-items}

@@ -1,3 +1,4 @@
+-- The digits of the bytes so far.
 use mathlib.Core.Path.{_≡_}
 use lib.ListN.{take}
 use Rattle.std.specs.Of.String.{string-bytes}

@@ -1,3 +1,4 @@
+-- The two laws are lemmas.
 use Rattle.hex.proofs.Codes as codes
 use Rattle.hex.proofs.laws.Needs as need
 

@@ -1,0 +1,10 @@
+pub mod Fields
+pub mod Fills
+pub mod Bytes
+pub mod Doors
+pub mod Letters
+pub mod Canonical
+pub mod Clean
+pub mod Sequences
+pub mod Images
+pub mod Readings

@@ -1,0 +1,4 @@
+pub mod Names
+pub mod Lines
+pub mod Records
+pub mod Rounds
