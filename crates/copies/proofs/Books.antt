@@ -50,13 +50,13 @@ module _ (p q : Sealing) (lp : Lawful p) (lq : Lawful q) (like : Alike 512 p q) 
       let la : length (p .sealed (tweak 0) (take 512 a)) ≡ 512 = lp .sealed-length (tweak 0) (take 512 a) small₀ (first-text a ka) ∙ first-long a ka in
       let lb : length (p .sealed (tweak 0) (take 512 b)) ≡ 512 = lp .sealed-length (tweak 0) (take 512 b) small₀ (first-text b kb) ∙ first-long b kb in
       let s₀ : p .sealed (tweak 0) (take 512 a) ≡ p .sealed (tweak 0) (take 512 b) =
-          sym (take-at (p .sealed (tweak 0) (take 512 a)) (p .sealed (tweak 1) (drop 512 a)) 512 la) ∙ ap (take 512) both
-          ∙ take-at (p .sealed (tweak 0) (take 512 b)) (p .sealed (tweak 1) (drop 512 b)) 512 lb in
+      sym (take-at (p .sealed (tweak 0) (take 512 a)) (p .sealed (tweak 1) (drop 512 a)) 512 la) ∙ ap (take 512) both
+      ∙ take-at (p .sealed (tweak 0) (take 512 b)) (p .sealed (tweak 1) (drop 512 b)) 512 lb in
       let s₁ : p .sealed (tweak 1) (drop 512 a) ≡ p .sealed (tweak 1) (drop 512 b) =
-          sym (drop-at (p .sealed (tweak 0) (take 512 a)) (p .sealed (tweak 1) (drop 512 a)) 512 la) ∙ ap (drop 512) both
-          ∙ drop-at (p .sealed (tweak 0) (take 512 b)) (p .sealed (tweak 1) (drop 512 b)) 512 lb in
+      sym (drop-at (p .sealed (tweak 0) (take 512 a)) (p .sealed (tweak 1) (drop 512 a)) 512 la) ∙ ap (drop 512) both
+      ∙ drop-at (p .sealed (tweak 0) (take 512 b)) (p .sealed (tweak 1) (drop 512 b)) 512 lb in
       let o₀ : take 512 a ≡ take 512 b =
-          sym (lp .opens (tweak 0) (take 512 a) small₀ (first-text a ka)) ∙ ap (p .opened (tweak 0)) s₀ ∙ lp .opens (tweak 0) (take 512 b) small₀ (first-text b kb) in
+      sym (lp .opens (tweak 0) (take 512 a) small₀ (first-text a ka)) ∙ ap (p .opened (tweak 0)) s₀ ∙ lp .opens (tweak 0) (take 512 b) small₀ (first-text b kb) in
       let o₁ : drop 512 a ≡ drop 512 b =
-          sym (lp .opens (tweak 1) (drop 512 a) small₁ (second-text a ka)) ∙ ap (p .opened (tweak 1)) s₁ ∙ lp .opens (tweak 1) (drop 512 b) small₁ (second-text b kb) in
+      sym (lp .opens (tweak 1) (drop 512 a) small₁ (second-text a ka)) ∙ ap (p .opened (tweak 1)) s₁ ∙ lp .opens (tweak 1) (drop 512 b) small₁ (second-text b kb) in
       sym (take-append-drop 512 a) ∙ ap₂ (λ (xs ys : List ℕ). xs ++ ys) o₀ o₁ ∙ take-append-drop 512 b

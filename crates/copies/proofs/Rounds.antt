@@ -24,12 +24,12 @@ module _ (f : ℕ → List ℕ → List ℕ) (t₀ t₁ : ℕ) (xs left right : 
   round-is h₀ h₁ =
       let lr : length (drop 512 xs) ≡ 512 = length-drop 512 xs ∙ omega arith in
       let second : take 512 (drop 512 (left ++ drop 512 xs)) ≡ drop 512 xs =
-          ap (take 512) (drop-at left (drop 512 xs) 512 kept) ∙ take-all 512 (drop 512 xs) (omega arith) in
+      ap (take 512) (drop-at left (drop 512 xs) 512 kept) ∙ take-all 512 (drop 512 xs) (omega arith) in
       let a : left ≡ f (tweak 0) (take 512 xs) = h₀ ∙ turned f t₀ (take 512 xs) (length-take-le 512 xs (omega arith)) ∙ ap (λ (t : ℕ). f t (take 512 xs)) e₀ in
       let b : right ≡ f (tweak 1) (drop 512 xs) =
-          h₁ ∙ ap (λ (ys : List ℕ). cond (permitted (length ys)) (f t₁ ys) ys) second ∙ turned f t₁ (drop 512 xs) lr ∙ ap (λ (t : ℕ). f t (drop 512 xs)) e₁ in
+      h₁ ∙ ap (λ (ys : List ℕ). cond (permitted (length ys)) (f t₁ ys) ys) second ∙ turned f t₁ (drop 512 xs) lr ∙ ap (λ (t : ℕ). f t (drop 512 xs)) e₁ in
       let none : drop 512 (drop 512 (left ++ drop 512 xs)) ≡ [] =
-          ap (drop 512) (drop-at left (drop 512 xs) 512 kept) ∙ nil-from-length (drop 512 (drop 512 xs)) (length-drop 512 (drop 512 xs) ∙ omega arith) in
+      ap (drop 512) (drop-at left (drop 512 xs) 512 kept) ∙ nil-from-length (drop 512 (drop 512 xs)) (length-drop 512 (drop 512 xs) ∙ omega arith) in
       ap (λ (ys : List ℕ). ys ++ (right ++ postOf 512 512 (left ++ drop 512 xs))) (take-at left (drop 512 xs) 512 kept)
       ∙ ap (λ (ys : List ℕ). left ++ (right ++ ys)) none
       ∙ ap (λ (ys : List ℕ). left ++ ys) (append-nil right)

@@ -81,7 +81,7 @@ pub reading-none : (i w : ℕ) (image bytes : List ℕ) (ds : List Door) → i <
 reading-none i w image bytes ds h wide b none inv =
     let k : 42 - i ≡ suc (42 - (i + 1)) = omega arith in
     let here : Holds (42 - i) (drop (24 * i) image) [] =
-        subst (λ (n : ℕ). Holds n (drop (24 * i) image) []) (sym k) (λ d e. none d (e ∙ ap (λ (n : ℕ). take n (drop (24 * i) image)) (sym wide) ∙ sym b)) in
+    subst (λ (n : ℕ). Holds n (drop (24 * i) image) []) (sym k) (λ d e. none d (e ∙ ap (λ (n : ℕ). take n (drop (24 * i) image)) (sym wide) ∙ sym b)) in
     subst (λ (t : List Door). Holds 42 image t) (append-nil ds) (inv [] here)
 
 pub reading-end : (i : ℕ) (image : List ℕ) (ds : List Door) → 42 ≤ i → Reading i image ds → Holds 42 image ds

@@ -85,9 +85,9 @@ pub fn read_round(heap: Global, image: &[u8; 1024]) -> Result<Vec<Door>, AllocEr
 {
     let mut doors = Vec::new(heap);
     for i in 0..42usize {
-        let at = 24 * i;
+        let place = 24 * i;
         let mut bytes = [0; 24];
-        bytes.copy_from_slice(&image[at..at + 24]);
+        bytes.copy_from_slice(&image[place..place + 24]);
         let Some(door) = Door::from_record(bytes) else {
             return Ok(doors);
         };

@@ -34,10 +34,12 @@ fn key_of(block: Block) -> WholeKey {
 
 fn turn_block<C: Cipher<Key = WholeKey> + Drop>(way: Way, key: Block, block: Block) -> Reply {
     let cipher = C::new(key_of(key));
-    Reply::Block(match way {
-        Way::Seal => cipher.seal(block),
-        Way::Open => cipher.open(block),
-    })
+    Reply::Block(
+        match way {
+            Way::Seal => cipher.seal(block),
+            Way::Open => cipher.open(block),
+        },
+    )
 }
 
 fn turn_text<M: Mode>(mode: &M, way: Way, tweak: Block, mut text: Vec<u8>) -> Reply {
@@ -62,27 +64,56 @@ fn lay_cards(first: &[u8], second: &[u8]) -> Reply {
     }
 }
 
-fn turn_xts<C: Cipher<Key = WholeKey> + Drop>(way: Way, first: Block, second: Block, tweak: Block, text: Vec<u8>) -> Reply {
+fn turn_xts<C: Cipher<Key = WholeKey> + Drop>(
+    way: Way,
+    first: Block,
+    second: Block,
+    tweak: Block,
+    text: Vec<u8>,
+) -> Reply {
     let mode: Xts<C> = Xts::new(key_of(first), key_of(second));
     turn_text(&mode, way, tweak, text)
 }
 
-fn turn_xcb<C: Cipher<Key = WholeKey> + Drop>(way: Way, key: Block, tweak: Block, text: Vec<u8>) -> Reply {
+fn turn_xcb<C: Cipher<Key = WholeKey> + Drop>(
+    way: Way,
+    key: Block,
+    tweak: Block,
+    text: Vec<u8>,
+) -> Reply {
     let mode: Xcb<C> = Xcb::new(key_of(key));
     turn_text(&mode, way, tweak, text)
 }
 
 pub fn carry_out(request: Request) -> Reply {
     match request {
-        Request::Cipher { cipher, way, key, block } => match cipher {
+        Request::Cipher {
+            cipher,
+            way,
+            key,
+            block,
+        } => match cipher {
             CipherName::Aes128 => turn_block::<AesCipher>(way, key, block),
             CipherName::Speck => turn_block::<SpeckCipher>(way, key, block),
         },
-        Request::Xts { cipher, way, first, second, tweak, text } => match cipher {
+        Request::Xts {
+            cipher,
+            way,
+            first,
+            second,
+            tweak,
+            text,
+        } => match cipher {
             CipherName::Aes128 => turn_xts::<AesCipher>(way, first, second, tweak, text),
             CipherName::Speck => turn_xts::<SpeckCipher>(way, first, second, tweak, text),
         },
-        Request::Xcb { cipher, way, key, tweak, text } => match cipher {
+        Request::Xcb {
+            cipher,
+            way,
+            key,
+            tweak,
+            text,
+        } => match cipher {
             CipherName::Aes128 => turn_xcb::<AesCipher>(way, key, tweak, text),
             CipherName::Speck => turn_xcb::<SpeckCipher>(way, key, tweak, text),
         },

@@ -153,7 +153,11 @@ impl<'a> Words<'a> {
 
     // No word is left.
     fn end(&self) -> Result<(), Unread> {
-        if self.rest.is_none() { Ok(()) } else { Err(Unread::Malformed) }
+        if self.rest.is_none() {
+            Ok(())
+        } else {
+            Err(Unread::Malformed)
+        }
     }
 }
 
@@ -161,7 +165,12 @@ fn cipher_request(heap: Global, cipher: CipherName, words: &mut Words) -> Result
     let key = words.block(heap)?;
     let block = words.block(heap)?;
     let way = words.way()?;
-    Ok(Request::Cipher { cipher, way, key, block })
+    Ok(Request::Cipher {
+        cipher,
+        way,
+        key,
+        block,
+    })
 }
 
 fn xts_request(heap: Global, cipher: CipherName, words: &mut Words) -> Result<Request, Unread> {
@@ -170,7 +179,14 @@ fn xts_request(heap: Global, cipher: CipherName, words: &mut Words) -> Result<Re
     let tweak = words.block(heap)?;
     let text = words.bytes(heap)?;
     let way = words.way()?;
-    Ok(Request::Xts { cipher, way, first, second, tweak, text })
+    Ok(Request::Xts {
+        cipher,
+        way,
+        first,
+        second,
+        tweak,
+        text,
+    })
 }
 
 fn xcb_request(heap: Global, cipher: CipherName, words: &mut Words) -> Result<Request, Unread> {
@@ -178,7 +194,13 @@ fn xcb_request(heap: Global, cipher: CipherName, words: &mut Words) -> Result<Re
     let tweak = words.block(heap)?;
     let text = words.bytes(heap)?;
     let way = words.way()?;
-    Ok(Request::Xcb { cipher, way, key, tweak, text })
+    Ok(Request::Xcb {
+        cipher,
+        way,
+        key,
+        tweak,
+        text,
+    })
 }
 
 // The requests that have no way.

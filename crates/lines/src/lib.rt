@@ -49,5 +49,4 @@ pub fn count_lines(s: &[u8]) -> usize
 // A text is its lines, joined by LF.
 pub fn lines_stand()
     ensures { λ _. ⌜ Joined ⌝ }
-{
-}
+{}

@@ -1,11 +1,11 @@
 // The guards' cards, and the modes of two wands on which the same cards were laid.
 use aes::Aes128;
+use aes::AesCipher;
 use keys::HalfKey;
 use keys::WholeKey;
 use refusal::Refusal;
 use xcb::Xcb;
 use xts::Xts;
-use aes::AesCipher;
 
 // The chief's card, and what the guard of the shift lays on it for each key.
 const CHIEF: [u8; 16] = *b"chief, card 0001";
@@ -41,5 +41,10 @@ pub fn lay_cards() -> Result<Wands, Refusal> {
         key(&GUARD_XTS)?,
         key(&GUARD_TWEAK)?,
     );
-    Ok(Wands { xcb, xcb2, xts, xts2 })
+    Ok(Wands {
+        xcb,
+        xcb2,
+        xts,
+        xts2,
+    })
 }

@@ -9,15 +9,15 @@ mod show;
 
 use cards::lay_cards;
 use doors::Door;
+use doors::RoundErrorDisplay;
 use doors::parse_round;
+use refusal::RefusalError;
 use show::show_doors;
 use show::show_mode;
 use std::error::AnyError;
 use std::io::Read;
 use xcb::XcbMode;
 use xts::XtsMode;
-use doors::RoundErrorDisplay;
-use refusal::RefusalError;
 
 // The round on standard input, or what is wrong with it.
 fn read_input(rt: &LibcRuntime) -> Result<Vec<Door>, AnyError> {
@@ -32,9 +32,15 @@ fn read_input(rt: &LibcRuntime) -> Result<Vec<Door>, AnyError> {
 fn run(rt: &LibcRuntime) -> Result<(), AnyError> {
     let doors = read_input(rt)?;
     let count = doors.len();
-    println!(rt, "the round: {count} doors of 24 bytes, in 2 sectors of 512 bytes")?;
+    println!(
+        rt,
+        "the round: {count} doors of 24 bytes, in 2 sectors of 512 bytes"
+    )?;
     let wands = lay_cards()?;
-    println!(rt, "the cards are laid: two for XCB, two for each key of XTS, on two wands")?;
+    println!(
+        rt,
+        "the cards are laid: two for XCB, two for each key of XTS, on two wands"
+    )?;
     let read = show_mode(rt, "XCB over AES-128", &wands.xcb, &wands.xcb2, &doors)?;
     show_doors(rt, &read)?;
     let read = show_mode(rt, "XTS over AES-128", &wands.xts, &wands.xts2, &doors)?;

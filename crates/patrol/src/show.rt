@@ -5,14 +5,14 @@ use copies::open_round;
 use copies::same_copies;
 use copies::seal_round;
 use doors::Door;
+use doors::DoorPartialEq;
 use doors::lay_round;
 use doors::read_round;
 use mode::Mode;
+use refusal::RefusalError;
 use std::alloc::AllocError;
 use std::alloc::Global;
 use std::error::AnyError;
-use doors::DoorPartialEq;
-use refusal::RefusalError;
 
 // The door that one wand skips, counted from 1.
 const SKIPPED: usize = 17;
@@ -48,7 +48,11 @@ fn show_sector(rt: &LibcRuntime, sector: &[u8]) -> Result<(), AnyError> {
 }
 
 fn verdict(same: bool) -> &'static str {
-    if same { "the copies are equal" } else { "the copies differ" }
+    if same {
+        "the copies are equal"
+    } else {
+        "the copies differ"
+    }
 }
 
 // The doors that a wand gave back, a line each.
@@ -61,7 +65,13 @@ pub fn show_doors(rt: &LibcRuntime, doors: &[Door]) -> Result<(), AnyError> {
 }
 
 // Seals the round on two wands, and on one that skipped a door; answers the doors that the first gives back.
-pub fn show_mode<M: Mode>(rt: &LibcRuntime, name: &str, mine: &M, other: &M, doors: &[Door]) -> Result<Vec<Door>, AnyError> {
+pub fn show_mode<M: Mode>(
+    rt: &LibcRuntime,
+    name: &str,
+    mine: &M,
+    other: &M,
+    doors: &[Door],
+) -> Result<Vec<Door>, AnyError> {
     println!(rt, "{name}")?;
     let mut image = sealed_wand(mine, doors)?;
     println!(rt, "sector 0, sealed under its number:")?;
@@ -72,11 +82,18 @@ pub fn show_mode<M: Mode>(rt: &LibcRuntime, name: &str, mine: &M, other: &M, doo
     println!(rt, "a second wand that walked the same round: {told}")?;
     let walked = without_one(rt.alloc(), doors)?;
     let told = verdict(same_copies(&image, &sealed_wand(other, &walked)?));
-    println!(rt, "a wand that skipped door {SKIPPED} of the round: {told}")?;
+    println!(
+        rt,
+        "a wand that skipped door {SKIPPED} of the round: {told}"
+    )?;
     open_round(mine, &mut image)?;
     let read = read_round(rt.alloc(), &image)?;
     let count = read.len();
-    let told = if read.as_slice() == doors { "as they were laid" } else { "NOT as they were laid" };
+    let told = if read.as_slice() == doors {
+        "as they were laid"
+    } else {
+        "NOT as they were laid"
+    };
     println!(rt, "opened again: {count} doors, {told}:")?;
     Ok(read)
 }

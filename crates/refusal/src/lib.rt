@@ -28,11 +28,13 @@ impl Refusal {
 
 pub impl fmt::Display for Refusal as RefusalDisplay {
     fn fmt<W: fmt::Write>(&self, f: &mut fmt::Formatter<W>) -> fmt::Result {
-        f.pad(match *self {
-            Refusal::Length => "refused, 1: the mode does not permit the length",
-            Refusal::NotACard => "refused, 5: the card is not of 16 bytes",
-            Refusal::SameCard => "refused, 6: the second card equals the first",
-        })
+        f.pad(
+            match *self {
+                Refusal::Length => "refused, 1: the mode does not permit the length",
+                Refusal::NotACard => "refused, 5: the card is not of 16 bytes",
+                Refusal::SameCard => "refused, 6: the second card equals the first",
+            },
+        )
     }
 }
 
