@@ -26,8 +26,12 @@ mod tests {
         Ok(text)
     }
 
-    fn fault(line: &[u8]) -> Option<Fault> {
-        parse_door(line).err()
+    fn wrong(line: &[u8], fault: Fault) -> Result<(), Fail> {
+        check_eq(parse_door(line).err(), Some(fault))
+    }
+
+    fn refused(heap: Global, input: &[u8], error: RoundError) -> Result<(), Fail> {
+        check_eq(parse_round(heap, input).err(), Some(error))
     }
 
     #[test]
@@ -58,32 +62,32 @@ mod tests {
 
     #[test]
     fn one_more_is_too_much() -> Result<(), Fail> {
-        check_eq(fault(b"65536 42 9 A"), Some(Fault::Number))?;
-        check_eq(fault(b"000007 42 9 A"), Some(Fault::Number))?;
-        check_eq(fault(b"0 42 9 A"), Some(Fault::Number))?;
-        check_eq(fault(b"7 1000000 9 A"), Some(Fault::Badge))?;
-        check_eq(fault(b"7 42 10000000000 A"), Some(Fault::Time))?;
-        check_eq(fault(b"7 42 9 Elevenchars"), Some(Fault::Name))
+        wrong(b"65536 42 9 A", Fault::Number)?;
+        wrong(b"000007 42 9 A", Fault::Number)?;
+        wrong(b"0 42 9 A", Fault::Number)?;
+        wrong(b"7 1000000 9 A", Fault::Badge)?;
+        wrong(b"7 42 10000000000 A", Fault::Time)?;
+        wrong(b"7 42 9 Elevenchars", Fault::Name)
     }
 
     #[test]
     fn each_fault_is_named() -> Result<(), Fail> {
-        check_eq(fault(b""), Some(Fault::Number))?;
-        check_eq(fault(b" 7 42 9 A"), Some(Fault::Number))?;
-        check_eq(fault(b"7"), Some(Fault::Number))?;
-        check_eq(fault(b"7  42 9 A"), Some(Fault::Badge))?;
-        check_eq(fault(b"7 -1 9 A"), Some(Fault::Badge))?;
-        check_eq(fault(b"7 42 nine A"), Some(Fault::Time))?;
-        check_eq(fault(b"7 42 9 "), Some(Fault::Name))?;
-        check_eq(fault(b"7 42 9 A B"), Some(Fault::Name))?;
+        wrong(b"", Fault::Number)?;
+        wrong(b" 7 42 9 A", Fault::Number)?;
+        wrong(b"7", Fault::Number)?;
+        wrong(b"7  42 9 A", Fault::Badge)?;
+        wrong(b"7 -1 9 A", Fault::Badge)?;
+        wrong(b"7 42 nine A", Fault::Time)?;
+        wrong(b"7 42 9 ", Fault::Name)?;
+        wrong(b"7 42 9 A B", Fault::Name)?;
         check(Fault::Time.text().starts_with("the time"))
     }
 
     #[test]
     fn nothing_follows_a_line() -> Result<(), Fail> {
-        check_eq(fault(b"7 42 9 A "), Some(Fault::Name))?;
-        check_eq(fault(b"7 42 9 A\r"), Some(Fault::Name))?;
-        check_eq(fault(b"7 42 9 A\n"), Some(Fault::Name))
+        wrong(b"7 42 9 A ", Fault::Name)?;
+        wrong(b"7 42 9 A\r", Fault::Name)?;
+        wrong(b"7 42 9 A\n", Fault::Name)
     }
 
     #[test]
@@ -118,18 +122,9 @@ mod tests {
         let text = repeated(rt.alloc(), b"7 42 9 A\n", 41)?;
         check(text.len() == 9 * 41)?;
         let input = text.as_slice();
-        check_eq(
-            parse_round(rt.alloc(), b"").err(),
-            Some(RoundError::Count(0)),
-        )?;
-        check_eq(
-            parse_round(rt.alloc(), &input[0..9 * 39]).err(),
-            Some(RoundError::Count(39)),
-        )?;
-        check_eq(
-            parse_round(rt.alloc(), input).err(),
-            Some(RoundError::Count(41)),
-        )?;
+        refused(rt.alloc(), b"", RoundError::Count(0))?;
+        refused(rt.alloc(), &input[0..9 * 39], RoundError::Count(39))?;
+        refused(rt.alloc(), input, RoundError::Count(41))?;
         check_eq(parse_round(rt.alloc(), &input[0..9 * 40])?.len(), 40)
     }
 
@@ -149,17 +144,14 @@ mod tests {
             number: 1,
             fault: Fault::Name,
         };
-        check_eq(
-            parse_round(rt.alloc(), windows.as_slice()).err(),
-            Some(first),
-        )?;
+        refused(rt.alloc(), windows.as_slice(), first)?;
         let mut text = repeated(rt.alloc(), b"7 42 9 A\n", 39)?;
         text.extend_from_slice(b"\n")?;
         let last = RoundError::Line {
             number: 40,
             fault: Fault::Number,
         };
-        check_eq(parse_round(rt.alloc(), text.as_slice()).err(), Some(last))
+        refused(rt.alloc(), text.as_slice(), last)
     }
 
     #[test]
@@ -168,8 +160,12 @@ mod tests {
         let second = parse_door(b"4 5 6 B")?;
         let mut image = [255; 1024];
         check(lay_round(&[first, second], &mut image))?;
-        check(&image[0..24] == first.to_record().as_slice())?;
-        check(&image[24..48] == second.to_record().as_slice())?;
+        check(
+            &image[0..24] == b"\0\x01\0\0\0\x02\0\0\0\0\0\0\0\x03A\0\0\0\0\0\0\0\0\0".as_slice(),
+        )?;
+        check(
+            &image[24..48] == b"\0\x04\0\0\0\x05\0\0\0\0\0\0\0\x06B\0\0\0\0\0\0\0\0\0".as_slice(),
+        )?;
         check(&image[48..1024] == [0; 976].as_slice())
     }
 
@@ -180,6 +176,6 @@ mod tests {
         check(!lay_round(&[door; 43], &mut image))?;
         check(image == [255; 1024])?;
         check(lay_round(&[door; 42], &mut image))?;
-        check_eq(image[1007], 0)
+        check_eq(image[24 * 41 + 1], 1)
     }
 }
