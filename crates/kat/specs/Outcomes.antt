@@ -42,9 +42,10 @@ abbrev pub opened : CipherName → ℕ → ℕ → ℕ
 opened Aes128 k n = aes.opened k n
 opened Speck k n = speck.opened k n
 
-abbrev pub turned-block : CipherName → Way → ℕ → ℕ → ℕ
-turned-block c Seal k n = sealed c k n
-turned-block c Open k n = opened c k n
+-- what sealing gives, or what opening gives
+abbrev pub turned : {A : Type 0} → Way → A → A → A
+turned Seal a b = a
+turned Open a b = b
 
 abbrev pub xts-of : CipherName → ℕ → ℕ → Sealing
 xts-of c first second = xts.by-functions (sealed c first) (opened c first) (sealed c second)
@@ -56,12 +57,8 @@ xcb-of c key =
     let s = sealed c key 5 in
     xcb.by-functions (sealed c e) (opened c e) (sealed c d) (opened c d) (sealed c s) (sealed c key 0)
 
-abbrev pub turned-text : Sealing → Way → ℕ → List ℕ → List ℕ
-turned-text m Seal t xs = m .sealed t xs
-turned-text m Open t xs = m .opened t xs
-
 abbrev pub text-outcome : Sealing → Way → ℕ → List ℕ → Outcome
-text-outcome m w t xs = cond (permitted (length xs)) (a-text (turned-text m w t xs)) (refused 1)
+text-outcome m w t xs = cond (permitted (length xs)) (a-text (turned w (m .sealed t xs) (m .opened t xs))) (refused 1)
 
 -- 5 for what is no card, then 6 for the same card twice
 abbrev pub cards-outcome : List ℕ → List ℕ → Outcome
@@ -69,7 +66,7 @@ cards-outcome a b =
     cond (eqb (length a) 16 && eqb (length b) 16) (cond (eqb (to-block a) (to-block b)) (refused 6) (a-block (to-block (xorBytes a b)))) (refused 5)
 
 abbrev pub outcome : Request → Outcome
-outcome (Cipher c w k n) = a-block (turned-block c w k n)
+outcome (Cipher c w k n) = a-block (turned w (sealed c k n) (opened c k n))
 outcome (Xts c w first second t v) = text-outcome (xts-of c first second) w t (vec-items v)
 outcome (Xcb c w k t v) = text-outcome (xcb-of c k) w t (vec-items v)
 outcome (Product x y) = a-block (product x y)

@@ -216,7 +216,7 @@ fn other_request(heap: Global, command: &[u8], words: &mut Words) -> Result<Requ
     Ok(request)
 }
 
-pub fn parse(heap: Global, line: &[u8]) -> Result<Request, Unread> {
+pub(crate) fn parse(heap: Global, line: &[u8]) -> Result<Request, Unread> {
     let mut words = Words { rest: Some(line) };
     let Some(command) = words.next() else {
         return Err(Unread::Malformed);

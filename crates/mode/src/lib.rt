@@ -10,9 +10,9 @@ use block::known_bytes;
 use refusal::Refusal;
 
 // A sector size is a multiple of a block from the smallest to the largest.
-pub const SMALLEST_SECTOR: usize = 32;
+const SMALLEST_SECTOR: usize = 32;
 
-pub const LARGEST_SECTOR: usize = 4096;
+const LARGEST_SECTOR: usize = 4096;
 
 pub trait Mode {
     ghost sealing: { Self → Sealing };

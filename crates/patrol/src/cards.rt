@@ -33,7 +33,7 @@ fn key(guard: &[u8]) -> Result<WholeKey, Refusal> {
 }
 
 // A key cannot be copied, so the cards are laid once for each wand.
-pub fn lay_cards() -> Result<Wands, Refusal> {
+pub(crate) fn lay_cards() -> Result<Wands, Refusal> {
     let (xcb, xcb2) = xcb::new_pair(key(&GUARD_XCB)?, key(&GUARD_XCB)?);
     let (xts, xts2) = xts::new_pair(
         key(&GUARD_XTS)?,

@@ -56,7 +56,7 @@ fn verdict(same: bool) -> &'static str {
 }
 
 // The doors that a wand gave back, a line each.
-pub fn show_doors(rt: &LibcRuntime, doors: &[Door]) -> Result<(), AnyError> {
+pub(crate) fn show_doors(rt: &LibcRuntime, doors: &[Door]) -> Result<(), AnyError> {
     for door in doors {
         let line = door.to_line(rt.alloc())?;
         println!(rt, "  {line}")?;
@@ -65,7 +65,7 @@ pub fn show_doors(rt: &LibcRuntime, doors: &[Door]) -> Result<(), AnyError> {
 }
 
 // Seals the round on two wands, and on one that skipped a door; answers the doors that the first gives back.
-pub fn show_mode<M: Mode>(
+pub(crate) fn show_mode<M: Mode>(
     rt: &LibcRuntime,
     name: &str,
     mine: &M,

@@ -30,7 +30,10 @@ mod tests {
     }
 
     fn xts(first: u128, second: u128) -> Xts<Speck128> {
-        Xts::new(WholeKey::without_cards(first), WholeKey::without_cards(second))
+        Xts::new(
+            WholeKey::without_cards(first),
+            WholeKey::without_cards(second),
+        )
     }
 
     #[test]
