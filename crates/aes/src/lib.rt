@@ -45,13 +45,6 @@ pub struct Aes128 {
     ghost unmixed: { Unmixed enc dec },
 }
 
-// Each direction undoes the other under every key; the round keys are the words of KeyExpansion; the standard's example comes out.
-pub fn aes128_stands()
-    ensures undone { λ _. ⌜ Undone ⌝ }
-    ensures words { λ _. ⌜ Words ⌝ }
-    ensures example { λ _. ⌜ Example ⌝ }
-{}
-
 fn round_constant(i: usize) -> u8
     requires { ⌜ i < 11 ⌝ }
     ensures { λ r. ⌜ r ≡ rcon i ⌝ }
@@ -134,3 +127,10 @@ pub impl Cipher for Aes128 as AesCipher {
         WholeKey::without_cards(self.seal(i as u128))
     }
 }
+
+// Each direction undoes the other under every key; the round keys are the words of KeyExpansion; the standard's example comes out.
+pub fn aes128_stands()
+    ensures undone { λ _. ⌜ Undone ⌝ }
+    ensures words { λ _. ⌜ Words ⌝ }
+    ensures example { λ _. ⌜ Example ⌝ }
+{}

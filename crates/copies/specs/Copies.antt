@@ -25,7 +25,7 @@ abbrev pub book-of : Sealing → List ℕ → List ℕ
 book-of m c = by-sector (m .opened) c
 
 -- Sealed by modes that seal alike, two copies are equal exactly when the two books are.
-pub record Tells (one other : List ℕ) (same : Bool) : Type 0 where
+pub record Matches (one other : List ℕ) (same : Bool) : Type 0 where
   pub yes : (p q : Sealing) → Lawful p → Lawful q → Alike 512 p q → (a b : List ℕ) → Book a → Book b
       → one ≡ copy p a → other ≡ copy q b → same ≡ true → a ≡ b
   pub exactly : (p q : Sealing) → Lawful p → Lawful q → Alike 512 p q → (a b : List ℕ) → Book a → Book b

@@ -1,7 +1,7 @@
 // A guard's round in the two sectors of a wand: sealing and opening them in memory, and comparing two sealed copies without a key.
 ghost use mathlib.Core.Path.{_≡_};
 ghost use mathlib.Core.Bool.{false, true};
-ghost use Rattle.copies.specs.Copies.{Tells, book-of, copy};
+ghost use Rattle.copies.specs.Copies.{Matches, book-of, copy};
 ghost use Rattle.refusal.specs.Refusals.{answer};
 use block::sector_tweak;
 use mode::Mode;
@@ -34,7 +34,7 @@ pub fn open_round<M: Mode>(mode: &M, image: &mut [u8; 1024]) -> Result<(), Refus
 pub fn same_copies(one: &[u8; 1024], other: &[u8; 1024]) -> bool
     ensures same { λ r. ⌜ (r ≡ true → now (one .entry) ≡ now (other .entry)) ⌝ }
     ensures differ { λ r. ⌜ (r ≡ false → now (one .entry) ≡ now (other .entry) → ⊥) ⌝ }
-    ensures books { λ r. ⌜ Tells (now (one .entry)) (now (other .entry)) r ⌝ }
+    ensures books { λ r. ⌜ Matches (now (one .entry)) (now (other .entry)) r ⌝ }
 {
     *one == *other
 }

@@ -4,6 +4,7 @@
 mod tests {
     use decimal::take_number;
     use doors::Door;
+    use doors::DoorPartialEq;
     use doors::Fault;
     use doors::FaultDebug;
     use doors::FaultPartialEq;
@@ -13,6 +14,7 @@ mod tests {
     use doors::lay_round;
     use doors::parse_door;
     use doors::parse_round;
+    use doors::read_round;
     use std::alloc::AllocError;
     use std::alloc::Global;
     use std::test::*;
@@ -177,5 +179,14 @@ mod tests {
         check(image == [255; 1024])?;
         check(lay_round(&[door; 42], &mut image))?;
         check_eq(image[24 * 41 + 1], 1)
+    }
+
+    #[test]
+    fn what_was_laid_is_read_back(rt: LibcRuntime) -> Result<(), Fail> {
+        let door = parse_door(b"1 2 3 A")?;
+        let mut image = [255; 1024];
+        check_eq(read_round(rt.alloc(), &image)?.len(), 0)?;
+        check(lay_round(&[door; 42], &mut image))?;
+        check(read_round(rt.alloc(), &image)?.as_slice() == [door; 42].as_slice())
     }
 }

@@ -78,22 +78,22 @@ pub(crate) fn show_mode<M: Mode>(
     show_sector(rt, &image[0..SECTOR])?;
     println!(rt, "sector 1, sealed under its number:")?;
     show_sector(rt, &image[SECTOR..ROUND])?;
-    let told = verdict(same_copies(&image, &sealed_wand(other, doors)?));
-    println!(rt, "a second wand that walked the same round: {told}")?;
+    let outcome = verdict(same_copies(&image, &sealed_wand(other, doors)?));
+    println!(rt, "a second wand that walked the same round: {outcome}")?;
     let walked = without_one(rt.alloc(), doors)?;
-    let told = verdict(same_copies(&image, &sealed_wand(other, &walked)?));
+    let outcome = verdict(same_copies(&image, &sealed_wand(other, &walked)?));
     println!(
         rt,
-        "a wand that skipped door {SKIPPED} of the round: {told}"
+        "a wand that skipped door {SKIPPED} of the round: {outcome}"
     )?;
     open_round(mine, &mut image)?;
     let read = read_round(rt.alloc(), &image)?;
     let count = read.len();
-    let told = if read.as_slice() == doors {
+    let outcome = if read.as_slice() == doors {
         "as they were laid"
     } else {
         "NOT as they were laid"
     };
-    println!(rt, "opened again: {count} doors, {told}:")?;
+    println!(rt, "opened again: {count} doors, {outcome}:")?;
     Ok(read)
 }
