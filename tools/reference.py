@@ -241,6 +241,7 @@ def cards(first, second):
 # ---- the lines of `kat`
 
 CIPHERS = {'aes128': Aes128, 'speck': Speck128}
+MODES = {'xts': (Xts, 2), 'xcb': (Xcb, 1)}  # and how many keys each has
 
 
 def unhex(word, length=None):
@@ -270,14 +271,13 @@ def carry_out(line):
         key, block = unhex(key, 16), unhex(block, 16)
         return turn(CIPHERS[command](key), (block,), way)
     mode, _, cipher = command.partition('-')
-    if mode == 'xts' and cipher in CIPHERS:
-        first, second, tweak, text, *way = args
-        first, second, tweak, text = unhex(first, 16), unhex(second, 16), unhex(tweak, 16), unhex(text)
-        return turn(Xts(CIPHERS[cipher], first, second), (tweak, text), way)
-    if mode == 'xcb' and cipher in CIPHERS:
-        key, tweak, text, *way = args
-        key, tweak, text = unhex(key, 16), unhex(tweak, 16), unhex(text)
-        return turn(Xcb(CIPHERS[cipher], key), (tweak, text), way)
+    if mode in MODES and cipher in CIPHERS:
+        make, keys = MODES[mode]
+        if not keys + 2 <= len(args) <= keys + 3:
+            raise ValueError
+        *keys_given, tweak = [unhex(word, 16) for word in args[:keys + 1]]
+        text, way = unhex(args[keys + 1]), args[keys + 2:]
+        return turn(make(CIPHERS[cipher], *keys_given), (tweak, text), way)
     if command == 'product':
         x, y = args
         return product(unhex(x, 16), unhex(y, 16))

@@ -26,15 +26,20 @@ impl Refusal {
     }
 }
 
+// The reason, for people; the number comes from `number`.
+fn reason(refusal: Refusal) -> &'static str {
+    match refusal {
+        Refusal::Length => "the mode does not permit the length",
+        Refusal::NotACard => "the card is not of 16 bytes",
+        Refusal::SameCard => "the second card equals the first",
+    }
+}
+
 pub impl fmt::Display for Refusal as RefusalDisplay {
     fn fmt<W: fmt::Write>(&self, f: &mut fmt::Formatter<W>) -> fmt::Result {
-        f.pad(
-            match *self {
-                Refusal::Length => "refused, 1: the mode does not permit the length",
-                Refusal::NotACard => "refused, 5: the card is not of 16 bytes",
-                Refusal::SameCard => "refused, 6: the second card equals the first",
-            },
-        )
+        let number = self.number();
+        let reason = reason(*self);
+        write!(f, "refused, {number}: {reason}")
     }
 }
 

@@ -21,7 +21,7 @@ use refusal::Refusal;
 
 // The blocks that stand before and behind the left part where it is hashed.
 #[derive(Clone, Copy)]
-pub struct Frame {
+struct Frame {
     first: u128,
     second: u128,
     last: u128,
@@ -29,7 +29,7 @@ pub struct Frame {
 
 // The frames of the two hashes: of the left part as it was, and of what the stream made of it.
 #[derive(Clone, Copy)]
-pub struct Frames {
+struct Frames {
     before: Frame,
     after: Frame,
 }
