@@ -1,5 +1,7 @@
 // AES-128 (FIPS 197), both directions. Opening is the equivalent inverse cipher of the standard: it runs the rounds backwards
 // with round keys that went through InvMixColumns, so that both directions go by tables.
+#![tactic(auto)]
+
 ghost use Rattle.std.specs.Prelude.{◌≡◌, ◌<◌, slice_index};
 ghost use Rattle.aes_math.specs.Rounds.{state_of, word_of};
 ghost use Rattle.aes.specs.Aes128.{next_key, opened, rcon, sealed};

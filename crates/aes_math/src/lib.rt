@@ -1,4 +1,6 @@
 // What FIPS 197 says of bytes, words and states, with its laws: definitions in specs/, no code of the cipher itself.
+#![tactic(auto)]
+
 ghost use Rattle.aes_math.specs.Facts.{Ciphers, Products, Substitution};
 
 // The substitution is the inverse and the affine map, and is undone; the standard's worked products come out.

@@ -1,5 +1,7 @@
 // The rounds of AES (FIPS 197), for every key length, by tables of columns. A state is a block: a number of 128 bits, its first byte the highest;
 // a column is 32 bits of it, the byte of row 0 the highest. Contracts read numbers through `state_of` and `word_of`.
+#![tactic(auto)]
+
 ghost use Rattle.aes_round.specs.Tables.{Tables};
 ghost use Rattle.aes_math.specs.Rounds.{add_round_key, add_word, inv_mix_columns, inv_mix_word, inv_shift_rows, inv_sub_bytes, mix_columns, mix_word, rot_word, shift_rows, state_of, sub_bytes, sub_word, word_of};
 ghost use Rattle.aes_math.specs.Field.{inv_sbox, sbox};

@@ -1,5 +1,7 @@
 // Blocks of sixteen bytes. A block is one number, its first byte the highest, so that Num(i) is i and XOR is one `^`.
 // Every byte order of the library is decided here: what reads the lowest byte first goes through `swap`.
+#![tactic(auto)]
+
 ghost use Rattle.std.specs.Prelude.{◌≡◌};
 ghost use Rattle.std.specs.Int.Digits.{AllBelowBase};
 ghost use Rattle.block.specs.Blocks.{to_bytes, to_block, loaded, stored, swapped, tweak};

@@ -1,4 +1,6 @@
 // The chips: EEPROM and flash, over bytes and lives that they are handed and give back.
+#![tactic(auto)]
+
 mod cells;
 mod eeprom;
 mod flash;

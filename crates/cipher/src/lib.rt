@@ -1,5 +1,7 @@
 // A block cipher: for each key a sealing and an opening function on blocks, each undoing the other.
 // A cipher is made from its key alone, and the trait leaves the key's type open.
+#![tactic(auto)]
+
 ghost use Rattle.std.specs.Prelude.{◌≡◌, ℕ};
 ghost use Rattle.cipher.specs.Ciphers.{Undoing};
 

@@ -1,4 +1,6 @@
 // Matches two sealed copies without a key. Copies by modes that seal alike are equal exactly when the books, the plain contents, are.
+#![tactic(auto)]
+
 ghost use Rattle.std.specs.Prelude.{◌≡◌, ◌<◌, length, replicate, IfOk, Decides};
 ghost use Rattle.refusal.specs.Refusals.{answer};
 ghost use Rattle.store.specs.Stores.{count as count_of, sector};

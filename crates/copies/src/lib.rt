@@ -1,4 +1,6 @@
 // A guard's round in the two sectors of a wand: sealing and opening them in memory, and comparing two sealed copies without a key.
+#![tactic(auto)]
+
 ghost use Rattle.std.specs.Prelude.{◌≡◌, true, false, ◌≢◌};
 ghost use Rattle.copies.specs.Copies.{Matches, book_of, copy};
 ghost use Rattle.refusal.specs.Refusals.{answer};

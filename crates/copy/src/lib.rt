@@ -1,4 +1,6 @@
 // Copies a sector from one store to another: how a dock takes a chip's sectors as they are, sealed.
+#![tactic(auto)]
+
 ghost use Rattle.std.specs.Prelude.{◌≡◌, length, replicate};
 ghost use Rattle.copy.specs.Copying.{after_copy, copy_answer, copy_tests};
 ghost use Rattle.refusal.specs.Refusals.{answer};

@@ -2,6 +2,7 @@
 //!
 //! A numeral is the whole run of digits that a text begins with. Leading zeros are fine as long as
 //! there are no more digits than the caller allows.
+#![tactic(auto)]
 
 ghost use Rattle.std.specs.Prelude.{◌≡◌, ℕ, ◌+◌, ◌*◌, ◌^◌, ◌<◌, ◌≤◌, true, false, List, ◌∷◌, length, take, drop, MatchOption, ◌≢◌};
 ghost use Rattle.std.specs.Option.{SomeIff};

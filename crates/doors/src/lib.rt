@@ -1,4 +1,5 @@
 //! A touched door, its record of 24 bytes, and a guard's round of forty doors.
+#![tactic(auto)]
 
 mod line;
 mod names;

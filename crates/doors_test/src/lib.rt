@@ -1,4 +1,5 @@
 //! Doors, records and rounds on examples.
+#![tactic(auto)]
 
 #[cfg(test)]
 mod tests {

@@ -1,5 +1,7 @@
 // The product of two blocks, and the hash of a list of blocks, of NIST SP 800-38D: the highest bit of a block is the coefficient of x^0.
 // The product is defined as that of polynomials modulo x^128 + x^7 + x^2 + x + 1; the code goes by the standard's steps, and by a table for each hash key.
+#![tactic(auto)]
+
 ghost use Rattle.std.specs.Prelude.{◌≡◌, suc, ◌^◌, ◌<◌, bit_xor};
 ghost use Rattle.field.specs.Field.{hash, product};
 ghost use Rattle.field.specs.Steps.{halved, added, summed, stepwise, entry, From, Product};

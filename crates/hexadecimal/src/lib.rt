@@ -1,4 +1,5 @@
 //! Hexadecimal: two digits a byte, the high one first. Written in lower case, read in either.
+#![tactic(auto)]
 
 ghost use Rattle.std.specs.Prelude.{◌≡◌, ℕ, ◌/◌, ◌%◌, ◌<◌, List, IfOk, string_bytes, MatchOption};
 ghost use Rattle.hexadecimal.specs.Hex.{Bytes, Decodes, Digit, Pair, digit, encoded};

@@ -7,6 +7,8 @@
 //
 // All in hexadecimal of either case, one space between words, `-` for no bytes at all. The answer is the result in lower case,
 // `refused N` for a refusal, `malformed` for any other line.
+#![tactic(auto)]
+
 mod answer;
 mod request;
 

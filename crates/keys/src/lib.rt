@@ -1,5 +1,7 @@
 // Key cards. A card is 16 bytes; the first card makes a half key, and the second turns that into a whole key by XOR, byte by byte.
 // Neither key can be copied, and no call reads a half key: a cipher can be had from a whole key alone.
+#![tactic(auto)]
+
 ghost use Rattle.std.specs.Prelude.{◌≡◌, length, MatchOption, ◌≢◌};
 ghost use Rattle.keys.specs.Cards.{Card, LaidFirst, LaidSecond, whole_key};
 

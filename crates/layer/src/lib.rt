@@ -1,5 +1,7 @@
 // A sealing layer: any mode over any store. Its sector k is sector k below, opened under tweak k; size, count and lives are those below.
 // It is a store again. Each call that writes seals in working bytes of the layer, so nothing is allocated.
+#![tactic(auto)]
+
 ghost use Rattle.std.specs.Prelude.{◌≡◌};
 ghost use Rattle.sealed.specs.Overs.{layer};
 ghost use Rattle.sealed.proofs.Layers.{layer_sound};

@@ -1,4 +1,6 @@
 // The lines of a text of bytes: LF ends a line, the last LF may be missing, and an LF that ends the text begins no further line.
+#![tactic(auto)]
+
 ghost use Rattle.std.specs.Prelude.{◌≡◌, ℕ, ◌<◌, ◌≤◌, [], ◌∷◌, length, MatchOption, ◌≢◌, slice_index};
 ghost use Rattle.lines.specs.Lines.{Joined, lines};
 

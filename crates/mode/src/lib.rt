@@ -1,4 +1,6 @@
 // A sealing mode: for each tweak and each permitted length, a sealing and an opening function on strings of that length.
+#![tactic(auto)]
+
 ghost use Rattle.std.specs.Prelude.{◌≡◌, true, length};
 ghost use Rattle.mode.specs.Modes.{Lawful, Sealing, mode_answer, opened_or, permitted, sealed_or, sector_size};
 ghost use Rattle.refusal.specs.Refusals.{answer};

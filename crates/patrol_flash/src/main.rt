@@ -5,6 +5,8 @@
 //   NUMBER BADGE TIME NAME       as `17 448210 1794953071 ARCHIVE-W`
 //
 // Each step and its outcome is printed. A round that is not well formed gets one line on standard error, and nothing is sealed.
+#![tactic(auto)]
+
 mod cards;
 mod show;
 mod wand;

@@ -1,4 +1,6 @@
 // A pile on a chip, and the chip's whole memory once the pile is taken apart.
+#![tactic(auto)]
+
 ghost use Rattle.std.specs.Prelude.{◌≡◌, length};
 ghost use Rattle.refusal.specs.Refusals.{answer};
 ghost use Rattle.store.specs.Stores.{write_answer};

@@ -1,4 +1,6 @@
 // Why a call is turned down. One enum serves every crate; `number` gives what buyers' forms and programs print.
+#![tactic(auto)]
+
 ghost use Rattle.std.specs.Prelude.{◌≡◌};
 ghost use Rattle.refusal.specs.Refusals.{number_of};
 

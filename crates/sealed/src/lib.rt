@@ -1,5 +1,7 @@
 // Sealed sectors below, plain ones above: what a sealing layer and a change-over share. The lemmas stand over any choice of a lawful mode for
 // each sector.
+#![tactic(auto)]
+
 mod scratch;
 
 ghost use Rattle.std.specs.Prelude.{◌≡◌, length};

@@ -1,4 +1,5 @@
 //! Cards, ciphers and modes on examples: refusals, edges, and keys that no card can make.
+#![tactic(auto)]
 
 #[cfg(test)]
 mod tests {

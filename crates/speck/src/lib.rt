@@ -1,4 +1,6 @@
 // Speck128/128, as its authors published it: 32 rounds on two words of 64 bits.
+#![tactic(auto)]
+
 ghost use Rattle.std.specs.Prelude.{◌≡◌, ◌^◌, ◌<◌};
 ghost use Rattle.keys.specs.Cards.{whole_key};
 ghost use Rattle.speck.specs.Facts.{Example, Rounds, Schedule, Undone};

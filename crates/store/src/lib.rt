@@ -1,5 +1,7 @@
 // A store: sectors of one size, each with a life. Chips, windows, sealing layers and change-overs are stores, so any pile of them is one.
 // A trait carries the meaning, and whatever stands on a store is proved from the meaning alone.
+#![tactic(auto)]
+
 mod again;
 mod checks;
 mod size;

@@ -1,4 +1,5 @@
 //! Stores on examples: refusals in their order, limits, chips' memory, windows, layers with outside bytes, and a deep pile.
+#![tactic(auto)]
 
 #[cfg(test)]
 mod tests {

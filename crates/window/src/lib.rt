@@ -1,4 +1,6 @@
 // A window over any store: its sector k is sector first + k below. It is a store again.
+#![tactic(auto)]
+
 ghost use Rattle.std.specs.Prelude.{◌≡◌, ◌+◌, IfOk};
 ghost use Rattle.refusal.specs.Refusals.{answer};
 ghost use Rattle.store.specs.Stores.{count as sectors_of};

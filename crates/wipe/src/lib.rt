@@ -1,4 +1,6 @@
 // Working bytes that are handed in, and cleared at every end of the call that uses them.
+#![tactic(auto)]
+
 ghost use Rattle.std.specs.Prelude.{◌≡◌, length, replicate};
 
 // Holds only the handed bytes, and clears them when it goes.

@@ -1,6 +1,8 @@
 // XCB (version 2, on whole blocks) over any cipher, with a tweak of one block. It hashes all but the last block, seals that block with the
 // hash into Z, streams from Z over the others, and closes the last block with the hash of the result. Opening is the same way with
 // the keys and the frames of the two hashes exchanged, so that one text serves both. The counter is XORed, and starts from 0.
+#![tactic(auto)]
+
 ghost use Rattle.std.specs.Prelude.{◌≡◌, ℕ, ◌+◌, ◌*◌, ◌≤◌, length, take};
 ghost use Rattle.cipher.specs.Made.{opening, sealing};
 ghost use Rattle.block.specs.Blocks.{blocks_of, loaded, stored};

@@ -1,5 +1,7 @@
 // XTS (IEEE 1619) on whole blocks, over any cipher and any two keys. The mask of a block is kept as a block and doubled through
 // `swap`, since the standard reads it with the lowest byte first; the tweak is sealed under the second key, for opening too.
+#![tactic(auto)]
+
 ghost use Rattle.std.specs.Prelude.{◌≡◌, ℕ, ◌*◌, length, if◌then◌else◌};
 ghost use Rattle.cipher.specs.Made.{sealing};
 ghost use Rattle.block.specs.Blocks.{loaded, stored, walk};
