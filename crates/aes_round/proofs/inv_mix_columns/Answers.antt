@@ -8,5 +8,5 @@ use Rattle.aes_round.proofs.inv_mix_columns.Goals as goal
 pub returns : goal.returns
 unfolding inv_mix_columns
 returns c =
-    c.join.ensures ∙ quad c.inv-mix.ensures c.inv-mix-2.ensures c.inv-mix-3.ensures c.inv-mix-4.ensures
+    c.join.ensures ∙ quad c.inv_mix.ensures c.inv_mix-2.ensures c.inv_mix-3.ensures c.inv_mix-4.ensures
     ∙ ap inv_mix_columns c.columns-a.ensures

@@ -8,4 +8,4 @@ use Rattle.aes_round.proofs.td2.Goals as goal
 
 pub returns : goal.returns
 returns c =
-    ap word_of c.rotate-right.ensures ∙ turn16 c.td0.result (omega arith) ∙ ap (λ (w : Word). (w.2, w.3, w.0, w.1)) c.td0.ensures
+    ap word_of c.rotate_right.ensures ∙ turn16 c.td0.result (omega arith) ∙ ap (λ (w : Word). (w.2, w.3, w.0, w.1)) c.td0.ensures

@@ -7,4 +7,4 @@ pub returns : goal.returns
 unfolding to_block
 returns c =
     let l : length c.args.bytes ≡ 16 = search rules in
-    c.from-be-bytes.ensures ∙ sym (number_16 c.args.bytes l)
+    c.from_be_bytes.ensures ∙ sym (number_16 c.args.bytes l)

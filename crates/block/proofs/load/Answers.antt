@@ -8,4 +8,4 @@ returns-then-part-ne-BLOCK c = sym (loaded_not c.args.part.now c.if-part-ne-BLOC
 
 pub returns : goal.returns
 returns c =
-    c.from-bytes.ensures ∙ ap to_block c.copy-from-slice.ensures.after ∙ sym (loaded_is c.args.part.now c.if-part-ne-BLOCK.false)
+    c.from_bytes.ensures ∙ ap to_block c.copy_from_slice.ensures.after ∙ sym (loaded_is c.args.part.now c.if-part-ne-BLOCK.false)

@@ -5,4 +5,4 @@ use Rattle.block.proofs.swap.Goals as goal
 
 pub returns : goal.returns
 unfolding swapped to_bytes to_block
-returns c = cc (c.swap-bytes.ensures, div-one c.args.block, number_16 (reverse (to_bytes c.args.block)) refl)
+returns c = cc (c.swap_bytes.ensures, div-one c.args.block, number_16 (reverse (to_bytes c.args.block)) refl)

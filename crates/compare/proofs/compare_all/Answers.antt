@@ -14,7 +14,7 @@ returns-then-not-branch g c =
     let b = g.B.Store.meaning c.args.other.now in
     let n = length c.args.left.now in
     let p = length c.args.right.now in
-    let was = c.in-ok-same-at.ensures in
+    let was = c.in_ok-same_at.ensures in
     let here : c.loop-k.k < count a = omega arith in
     let r =
     differ_at a b (g.met.A.Store.sound c.args.one.now) (g.met.B.Store.sound c.args.other.now) n p

@@ -9,5 +9,5 @@ returns g c =
     let kept : length c.open.new.text ≡ 512 = search rules in
     record {
       reply = c.open-2.ensures.reply ∙ second_answer c.args.image.now c.open.new.text long kept;
-      bytes = round_is m.opened c.sector-tweak.result c.sector-tweak-2.result c.args.image.now c.open.new.text c.open-2.new.text long kept c.sector-tweak.ensures c.sector-tweak-2.ensures c.open.ensures.bytes c.open-2.ensures.bytes;
+      bytes = round_is m.opened c.sector_tweak.result c.sector_tweak-2.result c.args.image.now c.open.new.text c.open-2.new.text long kept c.sector_tweak.ensures c.sector_tweak-2.ensures c.open.ensures.bytes c.open-2.ensures.bytes;
     }

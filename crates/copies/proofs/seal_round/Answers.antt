@@ -9,5 +9,5 @@ returns g c =
     let kept : length c.seal.new.text ≡ 512 = search rules in
     record {
       reply = c.seal-2.ensures.reply ∙ second_answer c.args.image.now c.seal.new.text long kept;
-      bytes = round_is m.sealed c.sector-tweak.result c.sector-tweak-2.result c.args.image.now c.seal.new.text c.seal-2.new.text long kept c.sector-tweak.ensures c.sector-tweak-2.ensures c.seal.ensures.bytes c.seal-2.ensures.bytes;
+      bytes = round_is m.sealed c.sector_tweak.result c.sector_tweak-2.result c.args.image.now c.seal.new.text c.seal-2.new.text long kept c.sector_tweak.ensures c.sector_tweak-2.ensures c.seal.ensures.bytes c.seal-2.ensures.bytes;
     }

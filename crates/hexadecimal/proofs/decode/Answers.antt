@@ -18,7 +18,7 @@ returns-in-default c = record {
 pub loop-i-preserved : goal.loop-i-preserved
 loop-i-preserved c =
     decodes_more c.args.text.now (vec_items c.loop-i.bytes) (vec_items c.push.new.self) c.loop-i.i c.in-Some.b (omega arith) c.loop-i.invariant c.in-Some.ensures
-    c.in-ok-push.ensures.items
+    c.in_ok-push.ensures.items
 
 pub returns : goal.returns
 returns c =

@@ -7,10 +7,10 @@ use Rattle.hexadecimal.proofs.encode.Goals as goal
 
 pub loop-b-preserved : goal.loop-b-preserved
 loop-b-preserved c =
-    let high = c.in-ok-push.ensures.bytes in
-    let high_is = c.in-ok-push.ensures.ascii c.digit-of.ensures.ascii in
-    let low = c.in-ok-push-2.ensures.bytes in
-    let low-is = c.in-ok-push-2.ensures.ascii c.digit-of-in-loop-b.ensures.ascii in
+    let high = c.in_ok-push.ensures.bytes in
+    let high_is = c.in_ok-push.ensures.ascii c.digit_of.ensures.ascii in
+    let low = c.in_ok-push-2.ensures.bytes in
+    let low-is = c.in_ok-push-2.ensures.ascii c.digit_of-in-loop-b.ensures.ascii in
     let more = encoded_more c.args.bytes.now c.loop-b.b-index (omega arith) in
     cc
 

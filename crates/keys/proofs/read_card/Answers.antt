@@ -8,5 +8,5 @@ returns c =
     let w = c.in-Ok.ensures.1 in
     record {
       long = w.long;
-      bytes = ap to_bytes (c.from-bytes.ensures ∙ ap to_block w.same) ∙ bytes_block c.args.card.now c.known-bytes.ensures w.long;
+      bytes = ap to_bytes (c.from_bytes.ensures ∙ ap to_block w.same) ∙ bytes_block c.args.card.now c.known_bytes.ensures w.long;
     }

@@ -3,4 +3,4 @@ use Rattle.speck.proofs.Rotations.{or_right3}
 use Rattle.speck.proofs.right_by_3.Goals as goal
 
 pub returns : goal.returns
-returns c = c.rotate-right.ensures ∙ or_right3 c.args.x (search rules)
+returns c = c.rotate_right.ensures ∙ or_right3 c.args.x (search rules)

@@ -8,5 +8,5 @@ unfolding digest
 returns c =
     let h = c.args.key.now.h in
     c.hash.ensures
-    ∙ ap (λ (k : ℕ). hash h (take k c.read-framed-framed.result)) (omega arith)
-    ∙ ap (hash h) c.read-framed-framed.ensures
+    ∙ ap (λ (k : ℕ). hash h (take k c.read_framed-framed.result)) (omega arith)
+    ∙ ap (hash h) c.read_framed-framed.ensures

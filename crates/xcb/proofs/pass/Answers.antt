@@ -8,5 +8,5 @@ returns g c =
     let o = k.opened (k.key c.args.back.now) in
     let q = k.sealed (k.key c.args.counter.now) in
     pass_is e o q c.args.key.now.h c.args.frames c.args.n c.args.text.now c.requires.0
-    c.seal-last.result c.framed-hash.result c.framed-hash-2.result c.stream.new.part c.open-last.new.part
-    c.seal-last.ensures c.framed-hash.ensures c.stream.ensures c.framed-hash-2.ensures c.open-last.ensures
+    c.seal_last.result c.framed_hash.result c.framed_hash-2.result c.stream.new.part c.open_last.new.part
+    c.seal_last.ensures c.framed_hash.ensures c.stream.ensures c.framed_hash-2.ensures c.open_last.ensures

@@ -11,9 +11,9 @@ loop-i-preserved g c =
     let n = c.args.n in
     let w = 16 * i + 16 - 16 * i in
     let long : length c.loop-i.part ≡ 16 * c.args.n = c.loop-i.auto.part ∙ c.requires in
-    let ys = c.stream-block.new.part in
+    let ys = c.stream_block.new.part in
     walk_more f next n i w i c.loop-i.part ys c.loop-i-test.true long (omega arith)
-    (walked_part f n i w i c.loop-i.part ys c.loop-i-test.true long (omega arith) c.stream-block.ensures)
+    (walked_part f n i w i c.loop-i.part ys c.loop-i-test.true long (omega arith) c.stream_block.ensures)
     ∙ c.loop-i.invariant
 
 pub returns : goal.returns

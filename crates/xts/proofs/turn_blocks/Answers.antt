@@ -13,11 +13,11 @@ loop-i-preserved g c =
     let n = c.args.n in
     let w = 16 * i + 16 - 16 * i in
     let long : length c.loop-i.text ≡ 16 * c.args.n = c.loop-i.auto.text ∙ c.requires in
-    let ys = c.turn-block.new.part in
+    let ys = c.turn_block.new.part in
     let s' = put_mid (16 * i) w c.loop-i.text ys in
     ap (λ (t : ℕ). take (16 * (i + 1)) s' ++ walk f doubled (n - (i + 1)) t (drop (16 * (i + 1)) s')) c.double-mask.ensures
     ∙ walk_more f doubled n i w c.loop-i.mask c.loop-i.text ys c.loop-i-test.true long (omega arith)
-    (walked_part f n i w c.loop-i.mask c.loop-i.text ys c.loop-i-test.true long (omega arith) c.turn-block.ensures)
+    (walked_part f n i w c.loop-i.mask c.loop-i.text ys c.loop-i-test.true long (omega arith) c.turn_block.ensures)
     ∙ c.loop-i.invariant
 
 pub returns : goal.returns

@@ -6,9 +6,9 @@ use Rattle.aes.proofs.Aes128Cipher.new.Goals as goal
 
 pub invariant-of-result : goal.invariant-of-result
 invariant-of-result c = (
-  subst (λ (k : ℕ). Expanded k c.expand-enc.result) (sym (first_key c.into-block-key.result c.expand-enc.result (omega arith) c.expand-enc.ensures)) c.expand-enc.ensures,
-  (c.inv-expand-dec.ensures, tt),
+  subst (λ (k : ℕ). Expanded k c.expand-enc.result) (sym (first_key c.into_block-key.result c.expand-enc.result (omega arith) c.expand-enc.ensures)) c.expand-enc.ensures,
+  (c.inv_expand-dec.ensures, tt),
 )
 
 pub returns : goal.returns
-returns c = ap whole_key (first_key c.into-block-key.result c.expand-enc.result (omega arith) c.expand-enc.ensures ∙ c.into-block-key.ensures)
+returns c = ap whole_key (first_key c.into_block-key.result c.expand-enc.result (omega arith) c.expand-enc.ensures ∙ c.into_block-key.ensures)

@@ -16,5 +16,5 @@ pub returns : goal.returns
 returns c =
     let e : c.loop-i.i ≡ 9 = omega arith in
     let P : ℕ → Type 0 = λ i. state_of c.loop-i.s ≡ rounds (round_key (state_of (get_or c.args.self.now.enc 0 0))) i (add_round_key (state_of (get_or c.args.self.now.enc 0 0)) (state_of c.args.block)) in
-    seal_end c.args.self.now.enc c.args.self.now.expanded c.args.block c.loop-i.s c.last-round.result c.last-round.type-inv
-    (subst P e c.loop-i.invariant) c.last-round.ensures
+    seal_end c.args.self.now.enc c.args.self.now.expanded c.args.block c.loop-i.s c.last_round.result c.last_round.type_inv
+    (subst P e c.loop-i.invariant) c.last_round.ensures

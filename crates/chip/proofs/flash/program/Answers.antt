@@ -16,4 +16,4 @@ returns c =
     let s = c.loop-i.sector in
     let b = c.args.bytes.now in
     let all : s ≡ programmed c.args.sector.now b = sym (program_all s b c.loop-i.i (λ p q. omega arith)) ∙ c.loop-i.invariant in
-    record { clears = all; fills = λ e. all ∙ ap (λ (old : List ℕ). programmed old b) e ∙ program_erased b (λ i. (c.type-inv.bytes i).fits) }
+    record { clears = all; fills = λ e. all ∙ ap (λ (old : List ℕ). programmed old b) e ∙ program_erased b (λ i. (c.type_inv.bytes i).fits) }

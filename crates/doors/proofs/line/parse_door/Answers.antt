@@ -9,32 +9,32 @@ use Rattle.doors.proofs.line.parse_door.Goals as goal
 pub returns-in-default : goal.returns-in-default
 returns-in-default c = let h = c.in-default.ensures in let n = wrong_no_door c.args.line.now Number h in record { cases = (h, n); only = λ d w. absurd (n d w) }
 
-pub returns-in-default-take-field : goal.returns-in-default-take-field
-returns-in-default-take-field c =
-    let h : Wrong c.args.line.now Badge = (c.in-Some.number, c.in-Some.rest.now, c.in-Some.ensures, c.in-default-take-field.ensures) in
+pub returns-in-default-take_field : goal.returns-in-default-take_field
+returns-in-default-take_field c =
+    let h : Wrong c.args.line.now Badge = (c.in-Some.number, c.in-Some.rest.now, c.in-Some.ensures, c.in-default-take_field.ensures) in
     let n = wrong_no_door c.args.line.now Badge h in record { cases = (h, n); only = λ d w. absurd (n d w) }
 
-pub returns-in-default-take-field-2 : goal.returns-in-default-take-field-2
-returns-in-default-take-field-2 c =
+pub returns-in-default-take_field-2 : goal.returns-in-default-take_field-2
+returns-in-default-take_field-2 c =
     let h : Wrong c.args.line.now Time = (
       c.in-Some.number,
       c.in-Some.rest.now,
       c.in-Some.ensures,
-      (c.in-Some-take-field.badge, c.in-Some-take-field.rest.now, c.in-Some-take-field.ensures, c.in-default-take-field-2.ensures),
+      (c.in-Some-take_field.badge, c.in-Some-take_field.rest.now, c.in-Some-take_field.ensures, c.in-default-take_field-2.ensures),
     ) in
     let n = wrong_no_door c.args.line.now Time h in record { cases = (h, n); only = λ d w. absurd (n d w) }
 
-pub returns-in-default-take-name : goal.returns-in-default-take-name
-returns-in-default-take-name c =
+pub returns-in-default-take_name : goal.returns-in-default-take_name
+returns-in-default-take_name c =
     let h : Wrong c.args.line.now Name = (
       c.in-Some.number,
       c.in-Some.rest.now,
       c.in-Some.ensures,
       (
-        c.in-Some-take-field.badge,
-        c.in-Some-take-field.rest.now,
-        c.in-Some-take-field.ensures,
-        (c.in-Some-take-field-2.time, c.in-Some-take-field-2.rest.now, c.in-Some-take-field-2.ensures, c.in-default-take-name.ensures),
+        c.in-Some-take_field.badge,
+        c.in-Some-take_field.rest.now,
+        c.in-Some-take_field.ensures,
+        (c.in-Some-take_field-2.time, c.in-Some-take_field-2.rest.now, c.in-Some-take_field-2.ensures, c.in-default-take_name.ensures),
       ),
     ) in
     let n = wrong_no_door c.args.line.now Name h in record { cases = (h, n); only = λ d w. absurd (n d w) }
@@ -42,13 +42,13 @@ returns-in-default-take-name c =
 pub invariant-of-result : goal.invariant-of-result
 invariant-of-result c =
     let n = c.in-Some.ensures in
-    let s = c.in-Some-take-field-2.rest.now in
-    let k = c.in-Some-take-name.ensures in (
+    let s = c.in-Some-take_field-2.rest.now in
+    let k = c.in-Some-take_name.ensures in (
       (n.least, n.numeral.small),
       (
-        c.in-Some-take-field.ensures.numeral.small,
+        c.in-Some-take_field.ensures.numeral.small,
         (
-          c.in-Some-take-field-2.ensures.numeral.small,
+          c.in-Some-take_field-2.ensures.numeral.small,
           (named_long s _ k, (named_some s _ k, (named_padded s _ k, tt))),
         ),
       ),
@@ -57,6 +57,6 @@ invariant-of-result c =
 pub returns : goal.returns
 returns c =
     record {
-      cases = written c.in-Some.ensures c.in-Some-take-field.ensures c.in-Some-take-field-2.ensures c.in-Some-take-name.ensures;
-      only = λ d w. ap Ok (one_door c.args.line.now _ d (written c.in-Some.ensures c.in-Some-take-field.ensures c.in-Some-take-field-2.ensures c.in-Some-take-name.ensures) w);
+      cases = written c.in-Some.ensures c.in-Some-take_field.ensures c.in-Some-take_field-2.ensures c.in-Some-take_name.ensures;
+      only = λ d w. ap Ok (one_door c.args.line.now _ d (written c.in-Some.ensures c.in-Some-take_field.ensures c.in-Some-take_field-2.ensures c.in-Some-take_name.ensures) w);
     }

@@ -12,5 +12,5 @@ returns-then-v-low c v rest f =
     let e = (same_begins _ _ _ _ _ _ _ (begins f) c.in-Some.ensures.cases).0 in
     omega (arith, f.least)
 
-pub returns-in-default-take-space : goal.returns-in-default-take-space
-returns-in-default-take-space c v rest f = c.in-default-take-space.ensures.cases rest (same_begins _ _ _ _ _ _ _ c.in-Some.ensures.cases (begins f)).1
+pub returns-in-default-take_space : goal.returns-in-default-take_space
+returns-in-default-take_space c v rest f = c.in-default-take_space.ensures.cases rest (same_begins _ _ _ _ _ _ _ c.in-Some.ensures.cases (begins f)).1

@@ -5,12 +5,12 @@ use Rattle.doors.specs.Names.{Letter}
 use Rattle.doors.proofs.Fills.{filled_more, named_end, not_named}
 use Rattle.doors.proofs.names.take_name.Goals as goal
 
-pub returns-then-not-is-letter : goal.returns-then-not-is-letter
-returns-then-not-is-letter c name h = not_named c.args.s.now name c.loop-i.i (omega arith) c.if-not-is-letter.ensures h
+pub returns-then-not-is_letter : goal.returns-then-not-is_letter
+returns-then-not-is_letter c name h = not_named c.args.s.now name c.loop-i.i (omega arith) c.if-not-is_letter.ensures h
 
 pub loop-i-preserved : goal.loop-i-preserved
 loop-i-preserved c = (
-  All-more Letter c.args.s.now c.loop-i.i 0 (omega arith) c.loop-i.invariant.0 (sym c.if-not-is-letter.ensures),
+  All-more Letter c.args.s.now c.loop-i.i 0 (omega arith) c.loop-i.invariant.0 (sym c.if-not-is_letter.ensures),
   filled_more c.args.s.now c.loop-i.name c.loop-i.i (omega arith) (omega arith) c.loop-i.invariant.1,
 )
 

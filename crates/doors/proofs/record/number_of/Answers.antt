@@ -5,4 +5,4 @@ use Rattle.doors.proofs.Bytes.{bytes_value2}
 use Rattle.doors.proofs.record.number_of.Goals as goal
 
 pub returns : goal.returns
-returns c = ap bytes2 c.from-be-bytes.ensures ∙ bytes_value2 c.args.s.now (λ i. (c.type-inv.s i).fits) c.requires
+returns c = ap bytes2 c.from_be_bytes.ensures ∙ bytes_value2 c.args.s.now (λ i. (c.type_inv.s i).fits) c.requires

@@ -6,4 +6,4 @@ use Rattle.doors.proofs.record.parts.Goals as goal
 pub returns : goal.returns
 returns c =
     let l : length c.args.bytes ≡ 24 = search rules in
-    parted (omega arith) (omega arith) (omega arith) l c.number-of.ensures c.badge-of.ensures c.time-of.ensures c.copy-from-slice.ensures.after
+    parted (omega arith) (omega arith) (omega arith) l c.number_of.ensures c.badge_of.ensures c.time_of.ensures c.copy_from_slice.ensures.after

@@ -11,9 +11,9 @@ pub loop-i-preserved : goal.loop-i-preserved
 loop-i-preserved c =
     let i = c.loop-i.i in
     let k : 24 * c.loop-i.i + 24 - 24 * c.loop-i.i ≡ 24 = omega arith in
-    ap (λ (n : ℕ). put_mid (24 * i) n c.loop-i.image c.copy-from-slice.new.self) k
-    ∙ laid_more c.args.doors.now i c.index-doors-i.result c.loop-i.image c.copy-from-slice.new.self (omega arith) c.index-doors-i.is (omega arith) c.loop-i.invariant
-    (c.copy-from-slice.ensures.after ∙ c.to-record.ensures.value)
+    ap (λ (n : ℕ). put_mid (24 * i) n c.loop-i.image c.copy_from_slice.new.self) k
+    ∙ laid_more c.args.doors.now i c.index-doors-i.result c.loop-i.image c.copy_from_slice.new.self (omega arith) c.index-doors-i.is (omega arith) c.loop-i.invariant
+    (c.copy_from_slice.ensures.after ∙ c.to_record.ensures.value)
 
 pub returns : goal.returns
 returns c = record { cases = (c.if-doors-gt42.false, laid_end c.args.doors.now c.loop-i.i c.loop-i.image (omega arith) c.loop-i.invariant) }

@@ -7,7 +7,7 @@ pub returns-in-default : goal.returns-in-default
 returns-in-default c =
     let i = c.loop-i.i in
     let image = c.args.image.now in
-    let h = reading_none i (24 * i + 24 - 24 * i) image _ _ c.loop-i-test.true (omega arith) c.copy-from-slice.ensures.after c.in-default.ensures.cases c.loop-i.invariant in
+    let h = reading_none i (24 * i + 24 - 24 * i) image _ _ c.loop-i-test.true (omega arith) c.copy_from_slice.ensures.after c.in-default.ensures.cases c.loop-i.invariant in
     record { made = h; back = held_image image _ h }
 
 pub loop-i-preserved : goal.loop-i-preserved
@@ -16,7 +16,7 @@ loop-i-preserved c =
     let image = c.args.image.now in
     let more : vec_items c.push.new.self ≡ vec_items c.loop-i.doors ++ (c.in-Some.door ∷ []) = search rules in
     subst (λ (ds : List Door). Reading (i + 1) image ds) (sym more)
-    (reading_more i (24 * i + 24 - 24 * i) image _ _ c.in-Some.door c.loop-i-test.true (omega arith) c.copy-from-slice.ensures.after c.in-Some.ensures.cases c.loop-i.invariant)
+    (reading_more i (24 * i + 24 - 24 * i) image _ _ c.in-Some.door c.loop-i-test.true (omega arith) c.copy_from_slice.ensures.after c.in-Some.ensures.cases c.loop-i.invariant)
 
 pub returns : goal.returns
 returns c =

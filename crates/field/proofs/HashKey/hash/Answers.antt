@@ -8,7 +8,7 @@ loop-b-preserved c =
     let xs = c.args.blocks.now in
     let h = c.args.self.now.h in
     let i = c.loop-b.b-index in
-    ap (λ (a : ℕ). absorbed h a (drop (i + 1) xs)) c.take-in-sum.ensures
+    ap (λ (a : ℕ). absorbed h a (drop (i + 1) xs)) c.take_in-sum.ensures
     ∙ sym (at_drop_more (absorbed h c.loop-b.sum) xs i 0 c.loop-b-test.true) ∙ c.loop-b.invariant
 
 pub returns : goal.returns

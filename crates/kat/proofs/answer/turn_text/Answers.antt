@@ -8,8 +8,8 @@ returns-in-Ok g c =
     let m = g.M.Mode.sealing c.args.mode.now in
     let w = c.args.way in
     let t = c.args.tweak in
-    let handed = c.as-mut-slice.result.now in
-    let same : c.as-mut-slice.result.now ≡ vec_items c.args.text = search rules in
+    let handed = c.as_mut_slice.result.now in
+    let same : c.as_mut_slice.result.now ≡ vec_items c.args.text = search rules in
     let long : length c.turn.new.text ≡ c.args.text.len = search rules in
     ap a_text (take_at c.turn.new.text _ c.args.text.len long ∙ c.in-Ok.ensures.bytes)
     ∙ accepted m w t handed c.in-Ok.ensures.reply

@@ -6,6 +6,6 @@ use Rattle.kat.proofs.answer.turn_xcb.Goals as goal
 
 pub returns : goal.returns
 returns g c =
-    c.turn-text.ensures
+    c.turn_text.ensures
     ∙ ap (λ (m : Sealing). text_outcome m c.args.way c.args.tweak (vec_items c.args.text))
-    (c.new-mode.ensures ∙ ap (λ a. xcb g.C.Cipher a) c.key-of.ensures)
+    (c.new-mode.ensures ∙ ap (λ a. xcb g.C.Cipher a) c.key_of.ensures)

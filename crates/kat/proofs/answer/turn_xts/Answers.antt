@@ -6,6 +6,6 @@ use Rattle.kat.proofs.answer.turn_xts.Goals as goal
 
 pub returns : goal.returns
 returns g c =
-    c.turn-text.ensures
+    c.turn_text.ensures
     ∙ ap (λ (m : Sealing). text_outcome m c.args.way c.args.tweak (vec_items c.args.text))
-    (c.new-mode.ensures ∙ ap₂ (λ a b. xts g.C.Cipher a b) c.key-of.ensures c.key-of-2.ensures)
+    (c.new-mode.ensures ∙ ap₂ (λ a b. xts g.C.Cipher a b) c.key_of.ensures c.key_of-2.ensures)

@@ -6,7 +6,7 @@ use Rattle.doors.specs.Records.{record_bytes}
 use Rattle.doors.specs.declared.types.Door.{Door}
 use Rattle.doors.proofs.Doors.{same_badge, same_door, same_name, same_number, same_time}
 use Rattle.doors.proofs.types.Door.from_record.Goals as goal
-use Rattle.doors.proofs.types.Door.from_record.Goals.{then-name-eq0-via-then-name-eq0, then-name-eq0-via-else-name-eq0+then-not-is-padded}
+use Rattle.doors.proofs.types.Door.from_record.Goals.{then-name-eq0-via-then-name-eq0, then-name-eq0-via-else-name-eq0+then-not-is_padded}
 
 pub returns-then-number-eq0 : goal.returns-then-number-eq0
 returns-then-number-eq0 c =
@@ -23,7 +23,7 @@ returns-then-name-eq0 c =
     let s = same_name c.parts-number.ensures d e in
     elim c.then-name-eq0.branch [
       | then-name-eq0-via-then-name-eq0 w ↦ let f : get_or d.name 0 0 ≡ 0 = ap (λ (l : List ℕ). get_or l 0 0) s ∙ w.if-name-eq0.true in omega (arith, d.some)
-      | then-name-eq0-via-else-name-eq0+then-not-is-padded w ↦ false≢true (w.if-not-is-padded.ensures ∙ ap padded (sym s) ∙ d.named)
+      | then-name-eq0-via-else-name-eq0+then-not-is-padded w ↦ false≢true (w.if-not-is_padded.ensures ∙ ap padded (sym s) ∙ d.named)
     ] in
     record { cases = none; back = λ d e. absurd (none d e) }
 

@@ -6,7 +6,7 @@ use Rattle.doors.specs.Names.{letters}
 use Rattle.doors.proofs.Canonical.{line_written}
 use Rattle.doors.proofs.Letters.{ascii_at, line_pushed, line_skip}
 use Rattle.doors.proofs.types.Door.to_line.Goals as goal
-use Rattle.doors.proofs.types.Door.to_line.Goals.{then-c-ne0+in-ok-push, else-c-ne0}
+use Rattle.doors.proofs.types.Door.to_line.Goals.{then-c-ne0+in_ok-push, else-c-ne0}
 
 pub loop-c-preserved : goal.loop-c-preserved
 loop-c-preserved c =
@@ -15,17 +15,17 @@ loop-c-preserved c =
     elim c.if-c-ne0.branch [
       | then-c-ne0+in-ok-push w ↦
           ap string_bytes w.text-is
-          ∙ line_pushed (string_bytes c.in-ok-text.text) (string_bytes c.loop-c.text) d.name i (omega (arith, d.long)) c.loop-c.invariant w.in-ok-push.ensures.bytes
-          w.from.ensures w.in-ok-push.ensures.ascii (ascii_at d.name i d.named) w.if-c-ne0.true
+          ∙ line_pushed (string_bytes c.in_ok-text.text) (string_bytes c.loop-c.text) d.name i (omega (arith, d.long)) c.loop-c.invariant w.in_ok-push.ensures.bytes
+          w.from.ensures w.in_ok-push.ensures.ascii (ascii_at d.name i d.named) w.if-c-ne0.true
       | else-c-ne0 w ↦
           ap string_bytes w.text-is
-          ∙ line_skip (string_bytes c.in-ok-text.text) (string_bytes c.loop-c.text) d.name i (omega (arith, d.long)) c.loop-c.invariant w.if-c-ne0.false
+          ∙ line_skip (string_bytes c.in_ok-text.text) (string_bytes c.loop-c.text) d.name i (omega (arith, d.long)) c.loop-c.invariant w.if-c-ne0.false
     ]
 
 pub returns : goal.returns
 returns c =
     let d = c.args.self.now in
-    let h = c.in-ok-text.ensures.ok in
+    let h = c.in_ok-text.ensures.ok in
     let all : take c.loop-c.c-index d.name ≡ d.name = take_all c.loop-c.c-index d.name (omega (arith, d.long)) in
-    let whole : string_bytes c.loop-c.text ≡ line_of d = c.loop-c.invariant ∙ ap (λ (t : List ℕ). string_bytes c.in-ok-text.text ++ letters t) all ∙ ap (λ (t : List ℕ). t ++ letters d.name) h ∙ simp append_assoc in
+    let whole : string_bytes c.loop-c.text ≡ line_of d = c.loop-c.invariant ∙ ap (λ (t : List ℕ). string_bytes c.in_ok-text.text ++ letters t) all ∙ ap (λ (t : List ℕ). t ++ letters d.name) h ∙ simp append_assoc in
     record { made = whole; written = subst (λ (t : List ℕ). Written t d) (sym whole) (line_written d) }

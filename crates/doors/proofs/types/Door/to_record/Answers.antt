@@ -7,6 +7,6 @@ pub returns : goal.returns
 returns c =
     record {
       value = laid_out c.args.self.now.number c.args.self.now.badge c.args.self.now.time
-          (c.copy-from-slice.ensures.after ∙ c.to-be-bytes.ensures) (c.copy-from-slice-2.ensures.after ∙ c.to-be-bytes-2.ensures)
-          (c.copy-from-slice-3.ensures.after ∙ c.to-be-bytes-3.ensures) c.copy-from-slice-4.ensures.after;
+          (c.copy_from_slice.ensures.after ∙ c.to_be_bytes.ensures) (c.copy_from_slice-2.ensures.after ∙ c.to_be_bytes-2.ensures)
+          (c.copy_from_slice-3.ensures.after ∙ c.to_be_bytes-3.ensures) c.copy_from_slice-4.ensures.after;
     }
