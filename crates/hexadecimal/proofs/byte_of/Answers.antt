@@ -2,8 +2,8 @@
 use Rattle.std.proofs.Common.{◌/◌, ◌%◌}
 use Rattle.hexadecimal.proofs.byte_of.Goals as goal
 
-pub returns-in-default : goal.returns-in-default
-returns-in-default c b p = c.in-default.ensures (b / 16) p.0
+pub returns-in_default : goal.returns-in_default
+returns-in_default c b p = c.in_default.ensures (b / 16) p.0
 
-pub returns-in-default-value_of : goal.returns-in-default-value_of
-returns-in-default-value_of c b p = c.in-default-value_of.ensures (b % 16) p.1
+pub returns-in_default-value_of : goal.returns-in_default-value_of
+returns-in_default-value_of c b p = c.in_default-value_of.ensures (b % 16) p.1

@@ -8,11 +8,11 @@ use Rattle.hexadecimal.proofs.decode.Goals as goal
 pub returns-then-text-ne0 : goal.returns-then-text-ne0
 returns-then-text-ne0 c = record { made = λ bs d. c.if-text-ne0.true (decodes_even c.args.text.now bs d) }
 
-pub returns-in-default : goal.returns-in-default
-returns-in-default c = record {
+pub returns-in_default : goal.returns-in_default
+returns-in_default c = record {
   made = λ bs d.
       let p = decodes_pair c.args.text.now bs c.loop-i.i d (omega arith) in
-      c.in-default.ensures p.0 p.1;
+      c.in_default.ensures p.0 p.1;
 }
 
 pub loop-i-preserved : goal.loop-i-preserved
