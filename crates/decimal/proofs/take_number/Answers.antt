@@ -16,14 +16,14 @@ returns-then-n-eq0 c = record {
       omega (arith, c.then-n-eq0.either);
 }
 
-pub returns-in-default : goal.returns-in-default
-returns-in-default c = record {
+pub returns-in_default : goal.returns-in_default
+returns-in_default c = record {
   cases = λ v rest b.
       let r = begins_run c.args.most c.args.limit c.args.s.now v rest c.count_digits-n.result c.count_digits-n.ensures.front c.count_digits-n.ensures.rest b in
       let e : decimal 0 (take c.count_digits-n.result c.args.s.now) ≡ v = ap (decimal 0) (sym r.0) ∙ b.numeral.value in
       let k : v ≤ c.args.limit = b.numeral.small in
       let z : decimal 0 (take (c.count_digits-n.result - 0) c.args.s.now) ≡ v = ap (λ (n : ℕ). decimal 0 (take n c.args.s.now)) (sub-zero c.count_digits-n.result) ∙ e in
-      omega (arith, c.in-default.ensures);
+      omega (arith, c.in_default.ensures);
 }
 
 pub returns : goal.returns

@@ -5,13 +5,13 @@ use Rattle.std.proofs.lemmas.List.{take_all}
 use Rattle.decimal.proofs.Runs.{digit_at, decimal_more, decimal-next}
 use Rattle.decimal.proofs.value.Goals as goal
 
-pub overflow-sub-b : goal.overflow-sub-b
-overflow-sub-b c = (digit_at c.args.s.now c.loop-b.b-index c.requires (omega arith)).0
+pub overflow_sub-b : goal.overflow_sub-b
+overflow_sub-b c = (digit_at c.args.s.now c.loop-b.b-index c.requires (omega arith)).0
 
-pub returns-in-default : goal.returns-in-default
-returns-in-default c =
+pub returns-in_default : goal.returns-in_default
+returns-in_default c =
     let m = decimal-next c.args.s.now c.loop-b.b-index c.loop-b.v (omega arith) c.loop-b.invariant.0 in
-    omega (arith, c.in-default.ensures)
+    omega (arith, c.in_default.ensures)
 
 pub returns-then-next-limit : goal.returns-then-next-limit
 returns-then-next-limit c =
