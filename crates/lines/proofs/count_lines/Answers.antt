@@ -5,5 +5,5 @@ use Rattle.lines.proofs.count_lines.Goals as goal
 
 pub returns : goal.returns
 returns c =
-    let z : length (lines c.loop-after.rest.now) ≡ 0 = ap (λ (t : List ℕ). length (lines t)) c.in-default.ensures ∙ ap length lines_nil in
+    let z : length (lines c.loop-after.rest.now) ≡ 0 = ap (λ (t : List ℕ). length (lines t)) c.in_default.ensures ∙ ap length lines_nil in
     omega arith
