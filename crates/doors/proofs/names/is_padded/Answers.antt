@@ -15,7 +15,7 @@ returns-then-ended c =
     let i = c.loop-c.c-index in
     elim c.then-ended.branch [
       | then-ended-via-then-ended w ↦ sym (c.loop-c.invariant ∙ left name i c.loop-c.ended true w.if-ended.true ∙ stop_ended name i (omega arith) c.if-c-eq0.false)
-      | then-ended-via-else-ended+then-not-is-letter w ↦
+      | then-ended-via-else-ended+then-not-is_letter w ↦
           sym (c.loop-c.invariant ∙ left name i c.loop-c.ended false w.if-ended.false ∙ stop_other name i (omega arith) c.if-c-eq0.false (sym w.if-not-is_letter.ensures))
     ]
 
@@ -25,7 +25,7 @@ loop-c-preserved c =
     let i = c.loop-c.c-index in
     elim c.if-c-eq0.branch [
       | then-c-eq0 w ↦ c.loop-c.invariant ∙ pass_zero name i (omega arith) c.loop-c.ended w.if-c-eq0.true ∙ sym (left name (i + 1) c.if-c-eq0.ended true w.ended-is)
-      | else-c-eq0+else-ended+else-not-is-letter w ↦
+      | else-c-eq0+else-ended+else-not-is_letter w ↦
           c.loop-c.invariant ∙ left name i c.loop-c.ended false w.if-ended.false ∙ pass_letter name i (omega arith) w.if-c-eq0.false (sym w.if-not-is_letter.ensures)
           ∙ sym (left name (i + 1) c.if-c-eq0.ended false (w.ended-is ∙ w.if-ended.false))
     ]

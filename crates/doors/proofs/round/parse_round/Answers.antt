@@ -26,5 +26,5 @@ loop-line-preserved c =
 pub returns : goal.returns
 returns c =
     let r = round_end c.args.input.now c.loop-line.rest.now (vec_len c.loop-line.doors) (vec_items c.loop-line.doors) (sym c.count_lines-count.ensures ∙ c.if-count-ne40.false)
-    c.in-default.ensures c.loop-line.invariant.0 c.loop-line.invariant.1 in
+    c.in_default.ensures c.loop-line.invariant.0 c.loop-line.invariant.1 in
     record { cases = r; only = λ ds q. one_round c.args.input.now (vec_items c.loop-line.doors) ds r q }

@@ -3,11 +3,11 @@ use Rattle.doors.specs.declared.types.Door.{Door}
 use Rattle.doors.proofs.Readings.{Reading, held_image, reading_end, reading_more, reading_none}
 use Rattle.doors.proofs.round.read_round.Goals as goal
 
-pub returns-in-default : goal.returns-in-default
-returns-in-default c =
+pub returns-in_default : goal.returns-in_default
+returns-in_default c =
     let i = c.loop-i.i in
     let image = c.args.image.now in
-    let h = reading_none i (24 * i + 24 - 24 * i) image _ _ c.loop-i-test.true (omega arith) c.copy_from_slice.ensures.after c.in-default.ensures.cases c.loop-i.invariant in
+    let h = reading_none i (24 * i + 24 - 24 * i) image _ _ c.loop-i-test.true (omega arith) c.copy_from_slice.ensures.after c.in_default.ensures.cases c.loop-i.invariant in
     record { made = h; back = held_image image _ h }
 
 pub loop-i-preserved : goal.loop-i-preserved

@@ -23,7 +23,7 @@ returns-then-name-eq0 c =
     let s = same_name c.parts-number.ensures d e in
     elim c.then-name-eq0.branch [
       | then-name-eq0-via-then-name-eq0 w ↦ let f : get_or d.name 0 0 ≡ 0 = ap (λ (l : List ℕ). get_or l 0 0) s ∙ w.if-name-eq0.true in omega (arith, d.some)
-      | then-name-eq0-via-else-name-eq0+then-not-is-padded w ↦ false≢true (w.if-not-is_padded.ensures ∙ ap padded (sym s) ∙ d.named)
+      | then-name-eq0-via-else-name-eq0+then-not-is_padded w ↦ false≢true (w.if-not-is_padded.ensures ∙ ap padded (sym s) ∙ d.named)
     ] in
     record { cases = none; back = λ d e. absurd (none d e) }
 

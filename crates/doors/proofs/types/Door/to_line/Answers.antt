@@ -13,7 +13,7 @@ loop-c-preserved c =
     let d = c.args.self.now in
     let i = c.loop-c.c-index in
     elim c.if-c-ne0.branch [
-      | then-c-ne0+in-ok-push w ↦
+      | then-c-ne0+in_ok-push w ↦
           ap string_bytes w.text-is
           ∙ line_pushed (string_bytes c.in_ok-text.text) (string_bytes c.loop-c.text) d.name i (omega (arith, d.long)) c.loop-c.invariant w.in_ok-push.ensures.bytes
           w.from.ensures w.in_ok-push.ensures.ascii (ascii_at d.name i d.named) w.if-c-ne0.true
