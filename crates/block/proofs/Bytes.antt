@@ -1,13 +1,11 @@
 -- Bytes and blocks: the laws.
-use Rattle.std.proofs.Common.{◌≡◌, ℕ, zero, suc, ◌+◌, ◌-◌, ◌*◌, ◌/◌, ◌%◌, ◌^◌, ◌<◌, ◌≤◌, List, [], ◌∷◌, ◌++◌, length, get_or, take, drop, sym, refl, ap, ◌∙◌, subst, append_assoc, mod-eq_of_lt, mul_assoc, add-mul, pow-suc, arith, length-append, length-drop, take-append-drop, take_at, drop_at, w8, Fits}
+use Rattle.std.proofs.Common.{◌≡◌, ℕ, zero, suc, ◌+◌, ◌*◌, ◌/◌, ◌%◌, ◌^◌, ◌<◌, List, [], ◌∷◌, length, get_or, take, refl, ap, ◌∙◌, subst, mod-eq_of_lt, mul_assoc, add-mul, arith, w8, Fits}
 use native.Mathlib.Nat.{pow-succ', mod-one, one-le-pow}
 use lib.Arith.{mod-mul, digits_div, digits_mod}
-use borrow.Rule.Slice.PartMut.{put_mid}
 use Rattle.std.specs.Int.Digits.{number_from_digits, number_from_digits_after, AllBelowBase}
 use Rattle.std.proofs.lemmas.Int.Digits.{number_more, number_lt}
-use Rattle.std.proofs.lemmas.List.{take_all, length-take-le, drop-drop}
-use Rattle.std.proofs.lemmas.Slice.{take-put_mid, drop-put_mid}
-use Rattle.std.proofs.ByRecursion.{All-from_get_or, All-append, All-take, All-drop}
+use Rattle.std.proofs.lemmas.List.{take_all}
+use Rattle.std.proofs.ByRecursion.{All-from_get_or}
 use Rattle.block.specs.Blocks.{bytes_of, to_bytes, to_block}
 
 step : (xs : List ℕ) (i : ℕ) → length xs ≡ 16 → i < 16 → number_from_digits 256 (take (i + 1) xs) ≡ number_from_digits 256 (take i xs) * 256 + get_or xs i 0

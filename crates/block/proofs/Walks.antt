@@ -1,11 +1,11 @@
 -- A walk over the blocks of a string.
-use Rattle.std.proofs.Common.{◌≡◌, ℕ, zero, suc, ◌+◌, ◌-◌, ◌*◌, ◌^◌, ◌<◌, ◌≤◌, List, [], ◌∷◌, ◌++◌, length, get_or, take, drop, sym, refl, ap, ◌∙◌, subst, append_assoc, arith, length-append, length-drop, take-append-drop, take_at, drop_at}
+use Rattle.std.proofs.Common.{◌≡◌, ℕ, zero, suc, ◌+◌, ◌-◌, ◌*◌, ◌^◌, ◌<◌, ◌≤◌, List, ◌++◌, length, take, drop, sym, refl, ap, ◌∙◌, append_assoc, arith, length-append, length-drop, take-append-drop, take_at, drop_at}
 use borrow.Rule.Slice.PartMut.{put_mid}
 use Rattle.std.specs.Int.Digits.{AllBelowBase}
 use Rattle.std.proofs.lemmas.List.{length-take-le, drop-drop, nil_from_length}
 use Rattle.std.proofs.lemmas.Slice.{take-put_mid, drop-put_mid}
 use Rattle.std.proofs.ByRecursion.{All-append, All-take, All-drop}
-use Rattle.block.specs.Blocks.{blocks_of, walk, to_bytes, to_block, loaded, stored}
+use Rattle.block.specs.Blocks.{walk, to_bytes, to_block, loaded, stored}
 use Rattle.block.proofs.Bytes.{length-to_bytes, under_to_bytes, block_bytes, bytes_block, block_below}
 use Rattle.block.proofs.Parts.{loaded_is, stored_is}
 

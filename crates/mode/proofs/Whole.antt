@@ -1,5 +1,5 @@
 -- A permitted length is whole blocks.
-use Rattle.std.proofs.Common.{◌≡◌, ℕ, ◌*◌, ◌/◌, ◌≤◌, true, List, length, ap, arith, rules}
+use Rattle.std.proofs.Common.{◌≡◌, ℕ, ◌*◌, ◌/◌, ◌≤◌, true, List, length, ap, rules}
 use Rattle.std.specs.Int.Digits.{AllBelowBase}
 use Rattle.mode.specs.Modes.{Text, permitted, sector_size}
 

@@ -1,4 +1,4 @@
-use Rattle.std.proofs.Common.{◌≡◌, ◌≢◌, length, sym, ap, ◌∙◌, arith}
+use Rattle.std.proofs.Common.{sym, ap, ◌∙◌}
 use Rattle.block.specs.Blocks.{to_block}
 use Rattle.block.proofs.Parts.{loaded_is, loaded_not}
 use Rattle.block.proofs.load.Goals as goal

@@ -1,4 +1,4 @@
-use Rattle.std.proofs.Common.{◌≡◌, sym, ap, ◌∙◌}
+use Rattle.std.proofs.Common.{sym, ◌∙◌}
 use Rattle.block.proofs.Parts.{stored_is, stored_not}
 use Rattle.block.proofs.store.Goals as goal
 

@@ -1,4 +1,4 @@
-use Rattle.std.proofs.Common.{◌≡◌, sym, ap, ◌∙◌}
+use Rattle.std.proofs.Common.{ap, ◌∙◌}
 use Rattle.block.specs.Blocks.{to_bytes, to_block}
 use Rattle.block.proofs.Bytes.{bytes_block}
 use Rattle.keys.proofs.read_card.Goals as goal

@@ -1,4 +1,4 @@
-use Rattle.std.proofs.Common.{◌≡◌, ℕ, ◌^◌, ◌<◌, sym, ap, ◌∙◌, rules}
+use Rattle.std.proofs.Common.{◌^◌, ◌<◌, ap, ◌∙◌, rules}
 use Rattle.block.specs.Blocks.{to_bytes, xor_bytes}
 use Rattle.block.proofs.Xor.{xor_to_bytes}
 use Rattle.keys.proofs.Same.{same_bytes}
