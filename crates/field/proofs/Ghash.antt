@@ -1,12 +1,11 @@
 -- The step-by-step product is the product of the mirrored polynomials modulo x^128 + x^7 + x^2 + x + 1.
-use Rattle.std.proofs.Common.{◌≡◌, ℕ, zero, suc, ◌+◌, ◌*◌, ◌/◌, ◌%◌, ◌^◌, ◌<◌, ◌≤◌, List, [], ◌∷◌, sym, refl, ap, ◌∙◌, subst, ap₂, mod-eq_of_lt, arith}
-use lib.Arith.{digits_div, digits_mod}
+use Rattle.std.proofs.Common.{◌≡◌, ℕ, zero, suc, ◌+◌, ◌*◌, ◌/◌, ◌%◌, ◌^◌, ◌<◌, [], ◌∷◌, sym, refl, ap, ◌∙◌, ap₂, mod-eq_of_lt, arith}
 use lib.Bits.{bit_xor, xor_assoc, xor_comm}
 use Rattle.field.specs.Field.{product, hash}
 use Rattle.field.specs.Steps.{halved, stepwise, Product}
 use Rattle.field.specs.Polynomials.{times, reduced, modular, mirrored}
 use Rattle.field.proofs.Xor.{swap, double}
-use Rattle.field.proofs.Times.{times_low, times_xor, times_below, reduced_by, reduced_below, remainder_unique, remainder}
+use Rattle.field.proofs.Times.{times_xor, times_below, reduced_by, reduced_below, remainder_unique, remainder}
 use Rattle.field.proofs.Ring.{times_more, times_comm}
 use Rattle.field.proofs.Mirror.{mirrored_suc, mirrored_xor, mirrored-scale, mirrored-halved, mirrored_below, mirrored-twice}
 use Rattle.field.proofs.Horner.{horner, horner_suc, horner_below, stepwise_is, stepwise_xor, stepwise_one, stepwise_by_x}

@@ -1,9 +1,8 @@
 -- The stepwise of blocks as a Horner sum, and its laws.
-use Rattle.std.proofs.Common.{◌≡◌, ℕ, zero, suc, ◌+◌, ◌*◌, ◌/◌, ◌%◌, ◌^◌, ◌<◌, ◌≤◌, sym, refl, ap, ◌∙◌, subst, ap₂, pow-suc, mul-zero, zero-mul, arith, pow_pos, shr-shr}
-use lib.Bits.{bit_xor, xor_mod, xor_shr, xor_assoc, xor_zero_r, xor_lt, xor_shifted}
-use lib.Pow.{mod-pow-add}
+use Rattle.std.proofs.Common.{◌≡◌, ℕ, zero, suc, ◌+◌, ◌*◌, ◌/◌, ◌%◌, ◌^◌, ◌<◌, sym, refl, ap, ◌∙◌, ap₂, pow-suc, zero-mul, arith, pow_pos}
+use lib.Bits.{bit_xor, xor_mod, xor_shr, xor_assoc, xor_zero_r, xor_lt}
 use Rattle.field.specs.Steps.{halved, added, summed, stepwise}
-use Rattle.field.proofs.Xor.{swap, undo, digits_scale, scale_xor, bit_scale, digit_cases}
+use Rattle.field.proofs.Xor.{swap, digits_scale, bit_scale, digit_cases}
 
 abbrev E : ℕ
 E = 0xe100_0000_0000_0000_0000_0000_0000_0000

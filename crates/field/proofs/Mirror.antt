@@ -1,12 +1,12 @@
 -- The opposite order of bits.
-use Rattle.std.proofs.Common.{◌≡◌, ℕ, zero, suc, ◌+◌, ◌*◌, ◌/◌, ◌%◌, ◌^◌, ◌<◌, ◌≤◌, sym, refl, ap, ◌∙◌, subst, ap₂, add-zero, add_assoc, mod-eq_of_lt, mul_assoc, mul_comm, add-mul, add_comm, pow-suc, zero-add, zero-mul, div-one, arith, pow_pos}
+use Rattle.std.proofs.Common.{◌≡◌, ℕ, zero, suc, ◌+◌, ◌*◌, ◌/◌, ◌%◌, ◌^◌, ◌<◌, sym, refl, ap, ◌∙◌, ap₂, add-zero, mul_assoc, pow-suc, zero-mul, div-one, arith}
 use native.Mathlib.Nat.{mod-one}
 use lib.Arith.{digits_div, digits_mod}
 use lib.Bits.{bit_xor, xor_block, xor_shifted, xor_assoc, xor_comm}
 use lib.Pow.{mod-pow-add}
 use Rattle.field.specs.Steps.{halved}
 use Rattle.field.specs.Polynomials.{mirrored}
-use Rattle.field.proofs.Xor.{undo, bit_xor_lem, digits_scale, scale_xor}
+use Rattle.field.proofs.Xor.{undo, bit_xor_lem, scale_xor}
 use Rattle.field.proofs.Times.{half_bit}
 
 pub mirrored_below : (n x : ℕ) → mirrored n x < 2 ^ n

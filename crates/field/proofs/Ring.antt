@@ -2,11 +2,11 @@
 use Rattle.std.proofs.Common.{◌≡◌, ℕ, zero, suc, ◌+◌, ◌-◌, ◌*◌, ◌/◌, ◌%◌, ◌^◌, ◌<◌, ◌≤◌, sym, refl, ap, ◌∙◌, subst, ap₂, add-zero, add-suc, mod-eq_of_lt, mul_assoc, mul_comm, suc-add, pow-suc, zero-add, zero-mul, mul-one, arith, pow_pos}
 use native.Mathlib.Nat.{mod-one}
 use lib.Arith.{digits_div, digits_mod}
-use lib.Bits.{bit_xor, xor_assoc, xor_comm, xor_zero_r, xor_self, xor_shifted}
+use lib.Bits.{bit_xor, xor_comm, xor_shifted}
 use lib.Pow.{mod-pow-add, field, mod-mod-pow}
 use Rattle.field.specs.Polynomials.{times}
-use Rattle.field.proofs.Xor.{swap, undo, double, scale_xor}
-use Rattle.field.proofs.Times.{times_xor, times_sum, times_shl, times_zero, times_low, half_bit}
+use Rattle.field.proofs.Xor.{swap, double, scale_xor}
+use Rattle.field.proofs.Times.{times_xor, times_sum, times_shl, times_zero, times_low}
 
 pub times_suc : (n a b : ℕ) → times (suc n) a b ≡ bit_xor (times n a b) (a / 2 ^ n % 2 * (b * 2 ^ n))
 unfolding times

@@ -1,10 +1,10 @@
 -- The product of polynomials, and its remainder.
-use Rattle.std.proofs.Common.{◌≡◌, ℕ, zero, suc, ◌+◌, ◌-◌, ◌*◌, ◌/◌, ◌%◌, ◌^◌, ◌<◌, ◌≤◌, ◌⊎◌, sym, refl, ap, ◌∙◌, subst, ap₂, inl, inr, add-zero, add-suc, mul_assoc, mul_comm, div-lt_iff_lt-mul, add_comm, suc-add, pow-suc, mul-zero, zero-add, zero-mul, mul-one, div-one, mul-div_cancel, arith, pow_pos, pow_mono, pow-add, shl_lt, shr-shr, shr_lt}
+use Rattle.std.proofs.Common.{◌≡◌, ℕ, zero, suc, ◌+◌, ◌*◌, ◌/◌, ◌%◌, ◌^◌, ◌<◌, ◌≤◌, ◌⊎◌, sym, refl, ap, ◌∙◌, subst, ap₂, inl, inr, mul_assoc, div-lt_iff_lt-mul, pow-suc, zero-mul, mul-one, div-one, mul-div_cancel, arith, pow_pos, pow_mono, pow-add, shl_lt, shr_lt}
 use native.Mathlib.Nat.{pow-succ', zero-div, mul-mod_left, div-div-eq-div-mul, div-eq_of_lt, mul-div-mul_right}
-use lib.Bits.{bit_xor, xor_mod, xor_shr, xor_assoc, xor_comm, xor_zero_r, xor_self, xor_lt, xor_shifted}
+use lib.Bits.{bit_xor, xor_shr, xor_assoc, xor_comm, xor_zero_r, xor_self, xor_lt}
 use Rattle.field.specs.Polynomials.{times, reduced, modular}
 use Rattle.field.specs.Steps.{Remainder}
-use Rattle.field.proofs.Xor.{swap, undo, shl_xor, double, digits_scale, scale_xor, bit_scale, digit_cases}
+use Rattle.field.proofs.Xor.{swap, undo, shl_xor, double, scale_xor, bit_scale, digit_cases}
 
 -- ---- linear in each factor
 

@@ -1,6 +1,6 @@
 -- XOR and digits.
-use Rattle.std.proofs.Common.{◌≡◌, ℕ, zero, suc, ◌+◌, ◌*◌, ◌/◌, ◌%◌, ◌^◌, ◌<◌, sym, refl, ap, ◌∙◌, subst, ap₂, le_of_suc-le-suc, not-suc-le-zero, add-zero, mod-lt, zero-add, zero-mul, arith, pow_pos}
-use lib.Bits.{bit_xor, xor_block, xor_mod, xor_shr, xor_assoc, xor_comm, xor_lt, xor_zero_r, xor_self}
+use Rattle.std.proofs.Common.{◌≡◌, ℕ, zero, suc, ◌*◌, ◌/◌, ◌%◌, ◌^◌, ◌<◌, sym, ap, ◌∙◌, subst, ap₂, le_of_suc-le-suc, not-suc-le-zero, add-zero, zero-mul, arith, pow_pos}
+use lib.Bits.{bit_xor, xor_block, xor_mod, xor_shr, xor_assoc, xor_comm, xor_zero_r, xor_self}
 
 -- (a + b) + (c + d) is (a + c) + (b + d)
 pub swap : (a b c d : ℕ) → bit_xor (bit_xor a b) (bit_xor c d) ≡ bit_xor (bit_xor a c) (bit_xor b d)

@@ -1,4 +1,4 @@
-use Rattle.std.proofs.Common.{◌≡◌, ℕ, ◌+◌, ◌*◌, ◌/◌, ◌%◌, ◌^◌, get_or, sym, refl, ap, ◌∙◌, ap₂, mod-eq_of_lt, div-one, arith, shr-shr}
+use Rattle.std.proofs.Common.{◌≡◌, ℕ, ◌+◌, ◌*◌, ◌/◌, ◌%◌, ◌^◌, get_or, sym, ap, ◌∙◌, ap₂, mod-eq_of_lt, div-one, arith, shr-shr}
 use native.Mathlib.Nat.{mod-one}
 use lib.Bits.{bit_xor}
 use Rattle.field.specs.Steps.{stepwise}
