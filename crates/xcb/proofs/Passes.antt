@@ -1,11 +1,10 @@
 -- The steps of a pass, put together.
-use Rattle.std.proofs.Common.{◌≡◌, ℕ, ◌+◌, ◌-◌, ◌*◌, List, [], ◌∷◌, ◌++◌, length, take, drop, sym, refl, ap, ◌∙◌, arith, length-append, length-drop, take_at, drop_at}
+use Rattle.std.proofs.Common.{◌≡◌, ℕ, ◌+◌, ◌-◌, ◌*◌, List, [], ◌++◌, length, take, drop, sym, ap, ◌∙◌, arith, length-append, length-drop, take_at, drop_at}
 use lib.Bits.{bit_xor}
 use borrow.Rule.Slice.PartMut.{put_mid, post_of}
 use Rattle.std.proofs.lemmas.List.{length-take-le, take_all, nil_from_length, append-nil}
 use Rattle.block.specs.Blocks.{blocks_of, to_bytes, to_block, loaded, stored}
 use Rattle.block.proofs.Parts.{loaded_is, stored_is}
-use Rattle.block.proofs.Bytes.{length-to_bytes}
 use Rattle.block.proofs.Walks.{length-walk}
 use Rattle.xcb.specs.declared.Frames.{Frames}
 use Rattle.xcb.specs.Xcb.{counted, next, digest, streamed, middle, finished, passed}

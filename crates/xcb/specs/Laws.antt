@@ -1,5 +1,5 @@
 -- XCB opens what it sealed, by the cipher's laws and XOR alone.
-use Rattle.std.specs.Prelude.{◌≡◌, ℕ, suc, ◌+◌, ◌-◌, ◌*◌, ◌/◌, ◌^◌, ◌<◌, ◌≤◌, true, List, [], ◌∷◌, ◌++◌, length, take, drop, bit_xor}
+use Rattle.std.specs.Prelude.{◌≡◌, ℕ, ◌+◌, ◌-◌, ◌*◌, ◌/◌, ◌^◌, ◌<◌, ◌≤◌, true, List, ◌++◌, length, take, drop, bit_xor}
 use Rattle.std.proofs.Common.{sym, ◌∙◌, length-append}
 use Rattle.std.proofs.Math.Path.{ap}
 use native.Mathlib.Omega.{arith}
@@ -9,7 +9,7 @@ use Rattle.std.proofs.Math.Seq.{take_at, drop_at}
 use Rattle.std.specs.Int.Digits.{AllBelowBase}
 use Rattle.std.proofs.lemmas.List.{length-take-le}
 use Rattle.std.proofs.ByRecursion.{All-append, All-take, All-drop}
-use Rattle.block.specs.Blocks.{blocks_of, walk, to_bytes, to_block}
+use Rattle.block.specs.Blocks.{blocks_of, to_bytes, to_block}
 use Rattle.block.proofs.Bytes.{length-to_bytes, under_to_bytes, block_bytes, bytes_block, block_below}
 use Rattle.block.proofs.Walks.{walk-walk, length-walk, under_walk}
 use Rattle.block.proofs.Xor.{xor_back}

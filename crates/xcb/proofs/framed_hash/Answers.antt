@@ -1,4 +1,4 @@
-use Rattle.std.proofs.Common.{◌≡◌, ℕ, ◌+◌, ◌-◌, take, ap, ◌∙◌, arith}
+use Rattle.std.proofs.Common.{ℕ, take, ap, ◌∙◌, arith}
 use Rattle.field.specs.Field.{hash}
 use Rattle.xcb.specs.Xcb.{digest}
 use Rattle.xcb.proofs.framed_hash.Goals as goal

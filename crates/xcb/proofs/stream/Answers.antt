@@ -1,4 +1,4 @@
-use Rattle.std.proofs.Common.{◌≡◌, ℕ, ◌+◌, ◌-◌, ◌*◌, length, sym, ap, ◌∙◌, arith}
+use Rattle.std.proofs.Common.{◌≡◌, ◌+◌, ◌-◌, ◌*◌, length, sym, ◌∙◌, arith}
 use Rattle.block.proofs.Walks.{walk_more, walk_all, walked_part}
 use Rattle.xcb.specs.Xcb.{counted, next}
 use Rattle.xcb.proofs.stream.Goals as goal

@@ -1,4 +1,4 @@
-use Rattle.std.proofs.Common.{◌≡◌, ℕ, ◌+◌, ◌-◌, ◌*◌, ◌++◌, take, drop}
+use Rattle.std.proofs.Common.{◌≡◌, ◌-◌, ◌*◌, ◌++◌, take, drop}
 use Rattle.block.specs.Blocks.{walk}
 use Rattle.xcb.specs.Xcb.{counted, next}
 use Rattle.xcb.proofs.stream.Given as goal
