@@ -1,8 +1,6 @@
 -- What is computed at each of the 256 bytes.
-use Rattle.std.proofs.Common.{◌≡◌, ℕ, zero, suc, ◌+◌, ◌*◌, ◌/◌, ◌%◌, ◌^◌, ◌<◌, Bool, true, false, T, eqb, ltb, refl, ltb→lt}
-use lib.Bits.{bit_xor}
+use Rattle.std.proofs.Common.{◌≡◌, ℕ, suc, ◌<◌, ltb, ltb→lt}
 use Rattle.aes_math.specs.Field.{xtime, scale, mul_bits, mul, squares, inverse, bit, digits_of, affine, unaffine, sbox, inv_sbox}
-use Rattle.aes_math.specs.Rounds.{sum4}
 use Rattle.aes_math.proofs.Below.{below, below_at, agree}
 
 pub inv_sbox-sbox : (b : ℕ) → b < 256 → inv_sbox (sbox b) ≡ b

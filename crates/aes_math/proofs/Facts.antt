@@ -1,6 +1,6 @@
 -- What the definitions are held to.
-use Rattle.std.proofs.Common.{◌≡◌, ℕ, zero, suc, ◌<◌, refl, arith}
-use Rattle.aes_math.specs.Field.{xtime, scale, mul_bits, mul, squares, inverse, bit, digits_of, affine, unaffine, sbox, inv_sbox}
+use Rattle.std.proofs.Common.{◌≡◌, zero, suc, refl, arith}
+use Rattle.aes_math.specs.Field.{xtime, scale, mul_bits, mul, squares, inverse, sbox}
 use Rattle.aes_math.specs.Facts.{Inverses, Substitution, Products, Ciphers}
 use Rattle.aes_math.proofs.ByteLaws.{mul-inverse, inv_sbox-sbox, sbox-inv_sbox}
 use Rattle.aes_math.proofs.StateLaws.{inv_cipher-cipher, cipher-inv_cipher}

@@ -1,5 +1,5 @@
 -- The product by a fixed byte is linear, and keeps bytes.
-use Rattle.std.proofs.Common.{◌≡◌, ℕ, zero, suc, ◌+◌, ◌*◌, ◌/◌, ◌%◌, ◌^◌, ◌<◌, sym, refl, ap, ◌∙◌, subst, ap₂, le_of_suc-le-suc, not-suc-le-zero, add-zero, mod-lt, arith}
+use Rattle.std.proofs.Common.{◌≡◌, ℕ, zero, suc, ◌*◌, ◌/◌, ◌%◌, ◌<◌, sym, refl, ap, ◌∙◌, ap₂, le_of_suc-le-suc, not-suc-le-zero, add-zero, arith}
 use lib.Bits.{bit_xor, xor_block, xor_mod, xor_shr, xor_assoc, xor_comm, xor_lt, xor_zero_r, xor_self}
 use Rattle.aes_math.specs.Field.{xtime, scale, mul_bits, mul}
 

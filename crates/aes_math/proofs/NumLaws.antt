@@ -1,5 +1,5 @@
 -- Words and blocks as numbers.
-use Rattle.std.proofs.Common.{◌≡◌, ℕ, zero, suc, ◌+◌, ◌*◌, ◌/◌, ◌%◌, ◌^◌, ◌<◌, sym, refl, ap, ◌∙◌, subst, ap₂, mod-eq_of_lt, zero-add, arith}
+use Rattle.std.proofs.Common.{◌≡◌, ℕ, ◌+◌, ◌*◌, ◌/◌, ◌%◌, ◌^◌, ◌<◌, sym, refl, ap, ◌∙◌, mod-eq_of_lt, zero-add, arith}
 use Rattle.std.proofs.lemmas.Nat.{mod-pow-add, shr-shr, xor_shr, xor_mod}
 use lib.Bits.{bit_xor, bit_or, or_shifted_r}
 use Rattle.aes_math.specs.Rounds.{Word, State, add_word, add_round_key, word_of, num_word, state_of, num_of}

@@ -1,8 +1,8 @@
 -- Each transformation of the state, and its inverse; then Cipher and InvCipher.
-use Rattle.std.proofs.Common.{◌≡◌, ℕ, zero, suc, ◌+◌, ◌*◌, ◌/◌, ◌%◌, ◌^◌, ◌<◌, Bool, true, false, T, eqb, sym, refl, ap, ◌∙◌, subst, ap₂, arith, eqb→eq}
+use Rattle.std.proofs.Common.{◌≡◌, ℕ, zero, suc, ◌<◌, Bool, T, eqb, sym, refl, ap, ◌∙◌, subst, eqb→eq}
 use lib.Bits.{bit_xor, xor_lt, xor_zero_r}
-use Rattle.aes_math.specs.Field.{xtime, scale, mul_bits, mul, sbox, inv_sbox}
-use Rattle.aes_math.specs.Rounds.{Word, State, add_word, sub_word, inv_sub_word, rot_word, sum4, mix_word, inv_mix_word, each, sub_bytes, inv_sub_bytes, shift_rows, inv_shift_rows, mix_columns, inv_mix_columns, add_round_key, round, inv_round, rounds, inv_rounds, cipher, inv_cipher}
+use Rattle.aes_math.specs.Field.{xtime, scale, mul_bits, mul}
+use Rattle.aes_math.specs.Rounds.{Word, State, add_word, sub_word, inv_sub_word, sum4, mix_word, inv_mix_word, sub_bytes, inv_sub_bytes, shift_rows, inv_shift_rows, mix_columns, inv_mix_columns, add_round_key, round, inv_round, rounds, inv_rounds, cipher, inv_cipher}
 use Rattle.aes_math.specs.Facts.{Bytes, ByteState}
 use Rattle.aes_math.specs.Parts.{mix0, mix1, mix2, mix3, inv0, inv1, inv2, inv3}
 use Rattle.aes_math.proofs.Below.{both, both_left, both_right, below, below_at}
