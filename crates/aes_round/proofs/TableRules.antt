@@ -2,7 +2,7 @@
 use mathlib.Core.Path.{◌≡◌, ap, ◌∙◌}
 use Prim.Native.Nat.{ℕ, ◌<◌}
 use lib.ListN.{get_or}
-use Rattle.aes_math.specs.Field.{mul, affine, inverse, sbox, inv_sbox}
+use Rattle.aes_math.specs.Field.{sbox, inv_sbox}
 use Rattle.aes_math.specs.Rounds.{Word, word_of, num_word}
 use Rattle.aes_round.specs.Tables.{Tables}
 use Rattle.aes_math.specs.Parts.{mix0, inv0}

@@ -142,7 +142,7 @@ pub fn rot_word(w: u32) -> u32
 
 // The two substitution tables by their rule, each undoing the other, at all 256 entries.
 pub fn tables_stand()
-    ensures* { do ⌜ Tables (← (⟦SBOX⟧).entry) (← (⟦INV_SBOX⟧).entry) ⌝ }
+    ensures { Tables SBOX INV_SBOX }
 {}
 
 // One column of a round, from the columns that its rows come from.

@@ -1,10 +1,7 @@
-use mathlib.Core.Path.{◌≡◌, refl, ap, ap₂, ◌∙◌}
+use mathlib.Core.Path.{ap, ◌∙◌}
 use Prim.Native.Nat.{ℕ}
-use lib.Bits.{bit_xor}
 use native.Mathlib.Omega.{arith}
-use Rattle.aes_math.specs.Field.{sbox, inv_sbox}
-use Rattle.aes_math.specs.Rounds.{Word, State, add_word, add_round_key, mix_columns, shift_rows, sub_bytes, inv_mix_columns, inv_shift_rows, inv_sub_bytes, word_of, state_of}
-use Rattle.aes_math.proofs.StateLaws.{quad}
+use Rattle.aes_math.specs.Field.{inv_sbox}
 use Rattle.aes_math.specs.Parts.{inv0, inv1, inv2, inv3}
 use Rattle.aes_math.proofs.ByteLaws.{inv_sbox-sbox}
 use Rattle.aes_math.proofs.WordSums.{total4_is}

@@ -1,7 +1,5 @@
-use mathlib.Core.Path.{◌≡◌, ap, ◌∙◌}
-use Prim.Native.Nat.{ℕ}
-use Rattle.aes_math.specs.Field.{sbox, inv_sbox}
-use Rattle.aes_math.specs.Rounds.{Word, word_of}
+use mathlib.Core.Path.{ap, ◌∙◌}
+use Rattle.aes_math.specs.Field.{sbox}
 use Rattle.aes_math.proofs.StateLaws.{quad}
 use Rattle.aes_math.proofs.WordSums.{add_is}
 use Rattle.aes_round.proofs.last.Goals as goal

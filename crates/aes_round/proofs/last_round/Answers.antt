@@ -1,7 +1,5 @@
-use mathlib.Core.Path.{◌≡◌, refl, ap, ap₂, ◌∙◌}
-use Prim.Native.Nat.{ℕ}
-use Rattle.aes_math.specs.Field.{sbox, inv_sbox}
-use Rattle.aes_math.specs.Rounds.{Word, State, add_word, add_round_key, mix_columns, shift_rows, sub_bytes, inv_mix_columns, inv_shift_rows, inv_sub_bytes, word_of, state_of}
+use mathlib.Core.Path.{ap₂, ◌∙◌}
+use Rattle.aes_math.specs.Rounds.{State, add_round_key, shift_rows, sub_bytes}
 use Rattle.aes_math.proofs.StateLaws.{quad}
 use Rattle.aes_round.proofs.last_round.Goals as goal
 

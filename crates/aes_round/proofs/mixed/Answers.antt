@@ -1,7 +1,6 @@
-use mathlib.Core.Path.{◌≡◌, ap, ◌∙◌}
+use mathlib.Core.Path.{ap, ◌∙◌}
 use Prim.Native.Nat.{ℕ}
-use Rattle.aes_math.specs.Field.{sbox, inv_sbox}
-use Rattle.aes_math.specs.Rounds.{Word, word_of}
+use Rattle.aes_math.specs.Field.{sbox}
 use Rattle.aes_math.specs.Parts.{mix0, mix1, mix2, mix3}
 use Rattle.aes_math.proofs.WordSums.{total_is}
 use Rattle.aes_round.proofs.mixed.Goals as goal

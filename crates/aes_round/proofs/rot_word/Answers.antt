@@ -1,4 +1,4 @@
-use mathlib.Core.Path.{◌≡◌, ap, ◌∙◌}
+use mathlib.Core.Path.{ap, ◌∙◌}
 use native.Mathlib.Omega.{arith}
 use Rattle.aes_math.specs.Rounds.{word_of}
 use Rattle.aes_math.proofs.NumLaws.{turn24}

@@ -1,6 +1,4 @@
-use mathlib.Core.Path.{◌≡◌, ap, ◌∙◌}
-use Prim.Native.Nat.{ℕ}
-use Rattle.aes_math.specs.Field.{sbox, inv_sbox}
+use mathlib.Core.Path.{ap, ◌∙◌}
 use Rattle.aes_math.specs.Rounds.{Word, word_of}
 use native.Mathlib.Omega.{arith}
 use Rattle.aes_math.proofs.NumLaws.{turn24}
