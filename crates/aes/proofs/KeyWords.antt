@@ -1,6 +1,6 @@
 -- The round keys are the words of KeyExpansion, four by four.
-use Rattle.std.proofs.Common.{◌≡◌, ℕ, zero, suc, ◌+◌, ◌*◌, ◌/◌, ◌%◌, sym, refl, ap, ◌∙◌, ap₂, arith}
-use lib.Bits.{bit_xor, xor_assoc}
+use Rattle.std.proofs.Common.{◌≡◌, ℕ, zero, suc, ◌+◌, ◌*◌, ◌/◌, ◌%◌, sym, refl, ap, ◌∙◌, arith}
+use lib.Bits.{xor_assoc}
 use Rattle.aes_math.specs.Rounds.{Word, State, add_word, sub_word, rot_word}
 use Rattle.aes.specs.Aes128.{rcon, next_key, round_key}
 use Rattle.aes.specs.Facts.{temp, w, Words}

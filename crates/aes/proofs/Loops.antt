@@ -1,11 +1,10 @@
 -- The loops over the rounds and over the round keys.
-use Rattle.std.proofs.Common.{◌≡◌, ℕ, zero, suc, ◌+◌, ◌-◌, ◌^◌, ◌<◌, ◌≢◌, List, length, get_or, set, replicate, sym, refl, ap, ◌∙◌, subst, ap₂, add-one, arith, length-set, get_or-set_other, get_or-set_same, below_more}
+use Rattle.std.proofs.Common.{◌≡◌, ℕ, zero, suc, ◌+◌, ◌-◌, ◌^◌, ◌<◌, ◌≢◌, List, length, get_or, set, replicate, sym, ap, ◌∙◌, ap₂, add-one, arith, length-set, get_or-set_other, get_or-set_same, below_more}
 use lib.Bits.{bit_xor}
-use Rattle.aes_math.specs.Rounds.{State, add_word, add_round_key, mix_columns, shift_rows, sub_bytes, inv_mix_columns, inv_shift_rows, inv_sub_bytes, round, inv_round, rounds, inv_rounds, cipher, inv_cipher, state_of, num_of}
+use Rattle.aes_math.specs.Rounds.{State, add_round_key, shift_rows, sub_bytes, inv_mix_columns, inv_shift_rows, inv_sub_bytes, round, inv_round, rounds, inv_rounds, cipher, inv_cipher, state_of, num_of}
 use Rattle.aes.specs.Aes128.{round_key, next_key, rcon, sealed, opened}
 use Rattle.aes.specs.Schedule.{Expanded, Unmixed}
-use Rattle.aes_math.specs.Facts.{ByteState}
-use Rattle.aes_math.proofs.StateLaws.{quad, inv_mix_add, Inverse, inv_mix_inverse}
+use Rattle.aes_math.proofs.StateLaws.{quad, inv_mix_add, inv_mix_inverse}
 use Rattle.aes_math.proofs.NumLaws.{state_bytes, state_num, num_state, state_xor, num_is}
 use Rattle.aes.specs.BlockLaws.{round_key_bytes}
 

@@ -1,17 +1,14 @@
 -- Opening undoes sealing and sealing undoes opening, on every block and key.
-use Rattle.std.specs.Prelude.{◌≡◌, ℕ, zero, suc, ◌+◌, ◌*◌, ◌/◌, ◌%◌, ◌^◌, ◌<◌, refl}
-use Rattle.std.proofs.Common.{sym, ap, ap₂, ◌∙◌, subst, mod-eq_of_lt, arith}
-use Rattle.std.proofs.lemmas.Nat.{mod-pow-add, shr-shr, xor_lt}
-use Rattle.std.specs.Int.Bits.{bit_xor}
-use Rattle.aes_math.specs.Field.{xtime, sbox}
-use Rattle.aes_math.specs.Rounds.{Word, State, add_word, sub_word, rot_word, cipher, inv_cipher, word_of, num_word, state_of, num_of}
+use Rattle.std.specs.Prelude.{◌≡◌, ℕ, zero, suc, ◌^◌, ◌<◌}
+use Rattle.std.proofs.Common.{ap, ◌∙◌, arith}
+use Rattle.aes_math.specs.Rounds.{Word, State, add_word, sub_word, rot_word, cipher, inv_cipher, num_word, state_of, num_of}
 use Rattle.aes.specs.Facts.{Undone}
 use Rattle.aes.specs.Aes128.{round_key, next_key, rcon, sealed, opened}
 use Rattle.aes_math.proofs.FieldLaws.{xtime_lt}
 use Rattle.aes_math.proofs.ByteLaws.{sbox_lt}
 use Rattle.aes_math.proofs.NumLaws.{state_bytes, state_num, num_state}
 use Rattle.aes_math.specs.Facts.{Bytes, ByteState}
-use Rattle.aes_math.proofs.StateLaws.{quad, add_bytes, cipher_bytes, inv_cipher_bytes, inv_cipher-cipher, cipher-inv_cipher}
+use Rattle.aes_math.proofs.StateLaws.{add_bytes, cipher_bytes, inv_cipher_bytes, inv_cipher-cipher, cipher-inv_cipher}
 
 -- ---- the round keys are bytes
 

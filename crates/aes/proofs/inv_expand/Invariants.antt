@@ -1,6 +1,5 @@
-use Rattle.std.proofs.Common.{◌≡◌, ℕ, ◌+◌, ◌-◌, ◌<◌, length, get_or}
-use Rattle.aes_math.specs.Rounds.{State, state_of, num_of, rounds, inv_rounds, add_round_key, inv_mix_columns}
-use Rattle.aes.specs.Aes128.{round_key}
+use Rattle.std.proofs.Common.{◌≡◌, ℕ, ◌<◌, length, get_or}
+use Rattle.aes_math.specs.Rounds.{state_of, num_of, inv_mix_columns}
 use Rattle.aes.proofs.inv_expand.Given as goal
 
 abbrev pub invariant-loop-i : goal.invariant-loop-i

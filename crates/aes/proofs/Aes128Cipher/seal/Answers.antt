@@ -1,5 +1,5 @@
 use Rattle.std.proofs.Common.{◌≡◌, ℕ, get_or, subst, arith}
-use Rattle.aes_math.specs.Rounds.{State, state_of, add_round_key, rounds}
+use Rattle.aes_math.specs.Rounds.{state_of, add_round_key, rounds}
 use Rattle.aes.specs.Aes128.{round_key}
 use Rattle.aes.proofs.Loops.{seal_start, seal_step, seal_end}
 use Rattle.aes.proofs.Aes128Cipher.seal.Goals as goal

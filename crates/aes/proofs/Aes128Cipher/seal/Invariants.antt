@@ -1,5 +1,5 @@
-use Rattle.std.proofs.Common.{◌≡◌, ℕ, ◌+◌, ◌-◌, ◌<◌, get_or}
-use Rattle.aes_math.specs.Rounds.{State, state_of, num_of, rounds, inv_rounds, add_round_key, inv_mix_columns}
+use Rattle.std.proofs.Common.{◌≡◌, get_or}
+use Rattle.aes_math.specs.Rounds.{state_of, rounds, add_round_key}
 use Rattle.aes.specs.Aes128.{round_key}
 use Rattle.aes.proofs.Aes128Cipher.seal.Given as goal
 
