@@ -1,5 +1,5 @@
 -- What the definitions are held to.
-use Rattle.std.specs.Prelude.{◌≡◌, ℕ, ◌+◌, ◌*◌, ◌^◌, ◌<◌, List, slice_index}
+use Rattle.std.specs.Prelude.{◌≡◌, ℕ, ◌^◌, ◌<◌, List, slice_index}
 use Rattle.cipher.specs.Ciphers.{Undoing}
 use Rattle.speck.specs.Speck.{Pair, round_of, unround_of, round_key, block_of, sealed, opened}
 

@@ -1,5 +1,5 @@
 -- XTS of IEEE 1619 on whole blocks, over the functions that a cipher's keys fix.
-use Rattle.std.specs.Prelude.{ℕ, ◌+◌, ◌*◌, ◌/◌, ◌%◌, ◌^◌, cond, List, length, bit_xor, nat_le}
+use Rattle.std.specs.Prelude.{ℕ, ◌*◌, ◌/◌, ◌%◌, ◌^◌, cond, List, length, bit_xor, nat_le}
 use Rattle.mode.specs.Modes.{Sealing}
 use Rattle.block.specs.Blocks.{walk, swapped}
 use Rattle.cipher.specs.declared.Cipher.{Ghosts as CipherMeaning}

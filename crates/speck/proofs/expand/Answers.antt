@@ -1,4 +1,4 @@
-use Rattle.std.proofs.Common.{◌≡◌, ℕ, ◌+◌, ◌<◌, ◌≤◌, length, sym, refl, ap, ◌∙◌, arith, length-set}
+use Rattle.std.proofs.Common.{◌≡◌, ℕ, ◌+◌, ◌<◌, length, sym, refl, ap, ◌∙◌, arith, length-set}
 use Rattle.speck.specs.Speck.{Pair, scheduled, round_of}
 use Rattle.speck.proofs.Loops.{scheduled_none, scheduled_more, table_more}
 use Rattle.speck.proofs.expand.Goals as goal

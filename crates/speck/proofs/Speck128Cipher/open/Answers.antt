@@ -1,5 +1,5 @@
-use Rattle.std.proofs.Common.{◌≡◌, ℕ, ◌+◌, ◌-◌, ◌<◌, get_or, sym, refl, ap, ◌∙◌, arith}
-use Rattle.speck.specs.Speck.{Pair, unrounds, pair_of, block_of, round_key, opened}
+use Rattle.std.proofs.Common.{◌≡◌, ℕ, ◌-◌, ◌<◌, get_or, sym, refl, ap, ◌∙◌, arith}
+use Rattle.speck.specs.Speck.{unrounds, pair_of, block_of, round_key, opened}
 use Rattle.speck.proofs.Loops.{unrounds_none, unrounds_less, unrounds_same}
 use Rattle.speck.proofs.Speck128Cipher.open.Goals as goal
 

@@ -1,5 +1,5 @@
-use Rattle.std.proofs.Common.{◌≡◌, ℕ, ◌+◌, ◌<◌, get_or, sym, refl, ap, ◌∙◌, arith}
-use Rattle.speck.specs.Speck.{Pair, rounds, pair_of, block_of, round_key, sealed}
+use Rattle.std.proofs.Common.{◌≡◌, ℕ, get_or, refl, ap, ◌∙◌, arith}
+use Rattle.speck.specs.Speck.{rounds, pair_of, block_of, round_key, sealed}
 use Rattle.speck.proofs.Loops.{rounds_none, rounds_more, rounds_same}
 use Rattle.speck.proofs.Speck128Cipher.seal.Goals as goal
 
