@@ -1,11 +1,10 @@
 -- Two copies are equal exactly when the two books are.
 use Rattle.std.proofs.Common.{◌≡◌, ℕ, ◌^◌, ◌<◌, List, ◌++◌, length, take, drop, sym, ap, ◌∙◌, ap₂, arith, length-drop, take-append-drop, take_at, drop_at}
-use Rattle.std.specs.Int.Digits.{AllBelowBase}
 use Rattle.std.proofs.lemmas.List.{length-take-le}
 use Rattle.std.proofs.ByRecursion.{All-take, All-drop}
 use Rattle.block.specs.Blocks.{tweak}
 use Rattle.block.proofs.Swaps.{swapped_below}
-use Rattle.mode.specs.Modes.{Sealing, Lawful, Alike, Text, permitted}
+use Rattle.mode.specs.Modes.{Sealing, Lawful, Alike, Text}
 use Rattle.mode.proofs.Whole.{text_512}
 use Rattle.copies.specs.Copies.{Book, copy}
 

@@ -1,5 +1,5 @@
 -- Two sectors in place, one after the other.
-use Rattle.std.proofs.Common.{◌≡◌, ℕ, true, cond, List, [], ◌++◌, length, take, drop, sym, ap, ◌∙◌, arith, length-append, length-drop, take_at, drop_at}
+use Rattle.std.proofs.Common.{◌≡◌, ℕ, cond, List, [], ◌++◌, length, take, drop, ap, ◌∙◌, arith, length-drop, take_at, drop_at}
 use borrow.Rule.Slice.PartMut.{put_mid, post_of}
 use Rattle.std.proofs.lemmas.List.{length-take-le, take_all, nil_from_length, append-nil}
 use Rattle.block.specs.Blocks.{tweak}

@@ -1,4 +1,4 @@
-use Rattle.std.proofs.Common.{◌≡◌, length, ap, ◌∙◌, rules}
+use Rattle.std.proofs.Common.{◌≡◌, length, ◌∙◌, rules}
 use Rattle.copies.proofs.Rounds.{round_is, second_answer}
 use Rattle.copies.proofs.open_round.Goals as goal
 
