@@ -4,7 +4,6 @@ use Rattle.std.proofs.lemmas.Bool.Decides.{nat_tests}
 use Rattle.block.specs.Blocks.{to_block, xor_bytes}
 use Rattle.mode.specs.Modes.{Sealing, permitted, mode_answer, sealed_or, opened_or}
 use Rattle.kat.specs.declared.request.Way.{Way}
-use Rattle.kat.specs.declared.request.Way.TheVariants.{Open, Seal}
 use Rattle.kat.specs.Outcomes.{Outcome, a_block, a_text, refused, turned, text_outcome, cards_outcome}
 
 by_test : (b : Bool) (w : Way) (s o x : List ℕ) → ◌≡◌ {A = ℕ} 0 (cond b 0 1) → a_text (turned w (cond b s x) (cond b o x)) ≡ cond b (a_text (turned w s o)) (refused 1)

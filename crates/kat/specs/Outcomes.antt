@@ -1,5 +1,5 @@
 -- What each request is answered, by the definitions of the library.
-use Rattle.std.specs.Prelude.{ℕ, Bool, cond, ◌&&◌, List, length, vec_items, ◌==◌}
+use Rattle.std.specs.Prelude.{ℕ, cond, ◌&&◌, List, length, vec_items, ◌==◌}
 use Rattle.aes.specs.Aes128 as aes
 use Rattle.block.specs.Blocks.{to_block, xor_bytes}
 use Rattle.field.specs.Field.{hash, product}

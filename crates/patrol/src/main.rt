@@ -14,6 +14,7 @@ use cards::lay_cards;
 use doors::{Door, parse_round};
 use show::{show_doors, show_mode};
 use std::io::Read;
+use std::process::ExitCode;
 
 // The round on standard input, or what is wrong with it.
 fn read_input(rt: &HostRuntime) -> anyhow::Result<Vec<Door>> {
@@ -37,10 +38,10 @@ fn run(rt: &HostRuntime) -> anyhow::Result<()> {
     show_doors(rt, &read)
 }
 
-fn main(rt: HostRuntime) -> anyhow::Result<()> {
-    let ended = run(&rt);
-    if let Err(e) = &ended {
-        eprintln!(rt; "patrol: {e}")?;
-    }
-    ended
+fn main(rt: HostRuntime) -> anyhow::Result<ExitCode> {
+    let Err(e) = run(&rt) else {
+        return Ok(ExitCode::SUCCESS);
+    };
+    eprintln!(rt; "patrol: {e}")?;
+    Ok(ExitCode::FAILURE)
 }

@@ -1,4 +1,4 @@
-use Rattle.std.proofs.Common.{◌≡◌, ℕ, ◌^◌, ◌<◌, sym, ap, ◌∙◌, rules}
+use Rattle.std.proofs.Common.{◌^◌, ◌<◌, sym, ap, ◌∙◌, rules}
 use Rattle.block.specs.Blocks.{to_block, to_bytes, xor_bytes}
 use Rattle.block.proofs.Bytes.{block_bytes, bytes_block}
 use Rattle.kat.proofs.Texts.{laid}

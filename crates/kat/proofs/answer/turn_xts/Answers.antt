@@ -1,4 +1,4 @@
-use Rattle.std.proofs.Common.{◌≡◌, vec_items, ap, ◌∙◌, ap₂}
+use Rattle.std.proofs.Common.{vec_items, ap, ◌∙◌, ap₂}
 use Rattle.mode.specs.Modes.{Sealing}
 use Rattle.xts.specs.Xts.{xts}
 use Rattle.kat.specs.Outcomes.{text_outcome}

@@ -1,4 +1,4 @@
-use Rattle.std.proofs.Common.{◌≡◌, vec_items, sym, ap, ◌∙◌}
+use Rattle.std.proofs.Common.{vec_items, sym, ap, ◌∙◌}
 use Rattle.kat.specs.declared.request.CipherName.{CipherName}
 use Rattle.kat.specs.Outcomes.{text_outcome, xts_of}
 use Rattle.kat.proofs.answer.xts_reply.Goals as goal
