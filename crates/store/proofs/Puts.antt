@@ -3,7 +3,7 @@ use Rattle.std.proofs.Common.{◌≡◌, ℕ, ◌-◌, ◌^◌, ◌<◌, ◌≤�
 use Rattle.std.specs.Int.Digits.{AllBelowBase}
 use Rattle.std.proofs.lemmas.List.{get_or_past}
 use Rattle.std.proofs.lemmas.Bool.{cases_eq, cases_lt}
-use Rattle.store.specs.Stores.{Meaning, Sound, count, sector, life, put}
+use Rattle.store.specs.Stores.{Meaning, Sound, count, life, put}
 
 module _ (m : Meaning) (s : Sound m) (k : ℕ) (xs : List ℕ) (long : length xs ≡ m.size) (u : AllBelowBase 256 xs) where
   -- what holds of every old value and of the new one holds of every value
