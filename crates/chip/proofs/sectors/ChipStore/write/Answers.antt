@@ -26,8 +26,8 @@ returns-in_err-left g c =
     let err = err_from_is_err_and c.from_residual-in_err-left.result c.from_residual-in_err-left.ensures.1 in
     record { reply = ap answer err.1 ∙ ap number_of err.2 ∙ r.reply; after = r.after; size = refl; bytes = r.raw_bytes; lives = r.raw_lives }
 
-pub invariant-of-self-2 : goal.invariant-of-self-2
-invariant-of-self-2 g c =
+pub invariant_of-self-2 : goal.invariant_of-self-2
+invariant_of-self-2 g c =
     let s = c.args.self.now in
     let k = c.args.sector in
     let at = c.in_ok-at.at in
@@ -37,10 +37,11 @@ invariant-of-self-2 g c =
     let long = ap length new ∙ length-overlaid at s.bytes.items xs p.in_bytes ∙ sym (ap length c.deref_mut.ensures.value) ∙ c.deref_mut.ensures.len in
     let life : c.index.result.now ≡ get_or s.lives.items k 0 = c.index.ensures ∙ get_or_default s.lives.items k c.index.result.now 0 p.in_lives in
     let fits = s.lives_fit k in
-    let left = c.in_ok-left.ensures.value.1 in (
-      subst (λ (ys : List ℕ). (i : ℕ) → get_or ys i 0 < 256) (sym (with_items_is s.bytes _ long ∙ new)) (small_overlaid at s.bytes.items xs s.bytes_fit (λ i. (c.type_inv.buffer i).fits)),
-      (small_set s.lives.items k c.in_ok-left.left s.lives_fit (omega arith), tt),
-    )
+    let left = c.in_ok-left.ensures.value.1 in
+    record {
+      bytes_fit = subst (λ (ys : List ℕ). (i : ℕ) → get_or ys i 0 < 256) (sym (with_items_is s.bytes _ long ∙ new)) (small_overlaid at s.bytes.items xs s.bytes_fit (λ i. (c.type_inv.buffer i).fits));
+      lives_fit = small_set s.lives.items k c.in_ok-left.left s.lives_fit (omega arith);
+    }
 
 pub returns : goal.returns
 returns g c =
