@@ -125,7 +125,7 @@ mod tests {
         assert!(rt; holds(&bytes, 0, 32, &[5; 32]));
         assert!(rt; holds(&bytes, 32, 64, &[0xa5; 32]));
         assert!(rt; holds(&bytes, 64, 70, &[5; 6]));
-        assert!(rt; lives.as_slice() == [4, 2, 4]);
+        assert!(rt; lives.as_slice() == [4, 2, 4].as_slice());
         Ok(())
     }
 
@@ -216,7 +216,7 @@ mod tests {
         assert!(rt; holds(&bytes, 0, 144, &[0; 144]));
         assert!(rt; holds(&bytes, 144, 192, &XTS_1));
         assert!(rt; holds(&bytes, 192, 384, &[0; 192]));
-        assert!(rt; lives.as_slice() == [3, 3, 3, 2, 3, 3, 3, 3]);
+        assert!(rt; lives.as_slice() == [3, 3, 3, 2, 3, 3, 3, 3].as_slice());
         Ok(())
     }
 
