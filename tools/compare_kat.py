@@ -4,7 +4,7 @@
 usage: compare_kat.py [--count N] [--seed S] [--kat PATH]
 
 AES and XTS are compared with Python's `cryptography` where that is installed, everything with reference.py. It is no part of the gate.
-Build the program first: rt check kat."""
+Build the program first, in crates/kat: rt run < stdin."""
 import argparse
 import pathlib
 import random
@@ -98,7 +98,7 @@ def main():
     parser = argparse.ArgumentParser()
     parser.add_argument('--count', type=int, default=2000)
     parser.add_argument('--seed', type=int, default=1)
-    parser.add_argument('--kat', default=str(root / 'target' / 'bin' / 'kat'))
+    parser.add_argument('--kat', default=str(root / 'crates' / 'kat' / 'out' / 'kat'))
     a = parser.parse_args()
     rng = random.Random(a.seed)
     lines = []
