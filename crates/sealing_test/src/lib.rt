@@ -72,13 +72,8 @@ mod tests {
     #[test]
     fn refusals_have_their_numbers(rt: HostRuntime) {
         assert_eq!(rt; Refusal::Length.number(), 1);
-        assert_eq!(rt; Refusal::Buffer.number(), 2);
-        assert_eq!(rt; Refusal::Absent.number(), 3);
-        assert_eq!(rt; Refusal::Size.number(), 4);
         assert_eq!(rt; Refusal::NotACard.number(), 5);
         assert_eq!(rt; Refusal::SameCard.number(), 6);
-        assert_eq!(rt; Refusal::Worn.number(), 7);
-        assert_eq!(rt; Refusal::Layer.number(), 9);
     }
 
     #[test]

@@ -8,7 +8,7 @@ mod size;
 
 ghost use Rattle.std.specs.Prelude.{◌≡◌, length, IfOk};
 ghost use Rattle.refusal.specs.Refusals.{answer};
-ghost use Rattle.store.specs.Stores.{Meaning, Sound, after_read, after_write, count as count_of, life as life-of, life_answer, read_answer, write_answer};
+ghost use Rattle.store.specs.Stores.{Meaning, Sound, after_read, after_write, count as count_of, life as life_of, life_answer, read_answer, write_answer};
 
 pub use again::read_again;
 pub use checks::{check_read, check_sector, check_write};
@@ -29,7 +29,7 @@ pub trait Store {
     // How many writes a sector still bears; 3.
     fn life(&self, sector: usize) -> Result<u32, Refusal>
         ensures reply { answer result ≡ life_answer (meaning self.now) sector }
-        ensures value { IfOk result (λ n. n ≡ life-of (meaning self.now) sector) };
+        ensures value { IfOk result (λ n. n ≡ life_of (meaning self.now) sector) };
 
     // Fills the buffer with the sector's bytes; 3, 2, 9.
     fn read(&self, sector: usize, buffer: &mut [u8]) -> Result<(), Refusal>

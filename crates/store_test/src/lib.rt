@@ -61,6 +61,15 @@ mod tests {
     }
 
     #[test]
+    fn refusals_of_stores_have_their_numbers(rt: HostRuntime) {
+        assert_eq!(rt; Refusal::Buffer.number(), 2);
+        assert_eq!(rt; Refusal::Absent.number(), 3);
+        assert_eq!(rt; Refusal::Size.number(), 4);
+        assert_eq!(rt; Refusal::Worn.number(), 7);
+        assert_eq!(rt; Refusal::Layer.number(), 9);
+    }
+
+    #[test]
     fn a_sector_size_is_a_multiple_of_16_from_32_to_4096(rt: HostRuntime) -> Result<(), Fail> {
         for bytes in [0, 16, 31, 33, 40, 4080 + 8, 4097, 4112] {
             assert_eq!(rt; SectorSize::new(bytes).err(), Some(Refusal::Size));
