@@ -5,19 +5,19 @@ use lib.ListN.{length-replicate}
 use Rattle.std.proofs.ByRecursion.{All-get_or}
 use Rattle.std.proofs.lemmas.List.{append_assoc, drop_all, drop_more, length-take-le, set_at, take_all, take_more}
 use Rattle.std.proofs.lemmas.Bool.Decides.{nat_tests}
-use Rattle.std.specs.List.{AllByRecursion as All}
+use Rattle.std.specs.List.{AllByRecursion}
 use Rattle.doors.specs.Names.{Letter, Named, is_letter, padded, zeros}
 
 zeros-replicate : (n : ℕ) → zeros (replicate n 0) ≡ true
 zeros-replicate zero = refl
 zeros-replicate (suc n) = zeros-replicate n
 
-padded_filled : (text : List ℕ) (n : ℕ) → All Letter text → padded (text ++ replicate n 0) ≡ true
+padded_filled : (text : List ℕ) (n : ℕ) → AllByRecursion Letter text → padded (text ++ replicate n 0) ≡ true
 padded_filled [] zero h = refl
 padded_filled [] (suc n) h = zeros-replicate n
 padded_filled (c ∷ text) n h = let r = padded_filled text n h.1 in let l : is_letter c ≡ true = h.0 in grind (arith, nat_tests)
 
-first_some : (text : List ℕ) (n : ℕ) → All Letter text → 1 ≤ length text → 1 ≤ get_or (text ++ replicate n 0) 0 0
+first_some : (text : List ℕ) (n : ℕ) → AllByRecursion Letter text → 1 ≤ length text → 1 ≤ get_or (text ++ replicate n 0) 0 0
 first_some [] n h k = absurd (not-suc-le-zero k)
 first_some (c ∷ text) n h k = let l : is_letter c ≡ true = h.0 in grind (arith, nat_tests)
 
@@ -40,13 +40,13 @@ module _ (text name : List ℕ) (h : Named text name) where
   named_some = let e = h.filled in rw e (first_some text (10 - length text) h.letters h.some)
 
 -- all of the text is copied
-pub named_end : (s name : List ℕ) (i : ℕ) → i ≡ length s → 1 ≤ length s → length s ≤ 10 → All Letter (take i s) → name ≡ take i s ++ replicate (10 - i) 0 → Named s name
+pub named_end : (s name : List ℕ) (i : ℕ) → i ≡ length s → 1 ≤ length s → length s ≤ 10 → AllByRecursion Letter (take i s) → name ≡ take i s ++ replicate (10 - i) 0 → Named s name
 named_end s name i h some few all e =
     let t : take i s ≡ s = take_all i s (omega arith) in
     record {
       some = some;
       few = few;
-      letters = subst (All Letter) t all;
+      letters = subst (AllByRecursion Letter) t all;
       filled = e ∙ ap (λ (x : List ℕ). x ++ replicate (10 - i) 0) t ∙ ap (λ (n : ℕ). s ++ replicate (10 - n) 0) h;
     }
 

@@ -3,7 +3,7 @@ use Rattle.std.proofs.Common.{◌≡◌, ℕ, zero, suc, ◌+◌, ◌-◌, ◌<�
 use mathlib.Core.Bool.{false≢true}
 use Rattle.std.proofs.lemmas.List.{append_assoc, append-nil, take_more}
 use Rattle.std.proofs.lemmas.Bool.Decides.{nat_tests}
-use Rattle.std.specs.List.{AllByRecursion as All}
+use Rattle.std.specs.List.{AllByRecursion}
 use Rattle.doors.specs.Names.{Letter, Named, is_letter, letters, padded, zeros}
 
 not_zero : (n : ℕ) → eqb (suc n) 0 ≡ false
@@ -67,7 +67,7 @@ ascii_at (suc n ∷ xs) (suc i) h = ascii_at xs i (padded_suc n xs h).1
 
 -- a padded name is its letters, filled up
 record Split (name text : List ℕ) : Type 0 where
-  all : All Letter text
+  all : AllByRecursion Letter text
   short : length text ≤ length name
   whole : name ≡ text ++ replicate (length name - length text) 0
 

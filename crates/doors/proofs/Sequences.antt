@@ -1,7 +1,7 @@
 -- Doors and their lines, one after the other.
 use Rattle.std.proofs.Common.{◌≡◌, ℕ, zero, suc, ◌+◌, ◌-◌, ◌<◌, ◌⊎◌, List, [], ◌∷◌, ◌++◌, length, get_or, take, drop, sym, refl, ap, ◌∙◌, subst, inl, inr, le_of_suc-le-suc, not-suc-le-zero, arith, length-drop}
 use Rattle.std.proofs.lemmas.List.{drop_more, take_all, take_more}
-use Rattle.std.specs.List.{AllByRecursion as All}
+use Rattle.std.specs.List.{AllByRecursion}
 use Rattle.doors.specs.Lines.{NoDoor, Written, Wrong}
 use Rattle.lines.specs.Lines.{ended, lines, unended}
 use Rattle.doors.specs.Rounds.{Each, NoRound, Explains, Round}
@@ -12,7 +12,7 @@ use Rattle.doors.proofs.Fields.{one_door}
 use Rattle.lines.proofs.Splits.{Clean, joins_lines, lines-ended, lines_nil, lines-unended}
 use Rattle.doors.proofs.Clean.{written_clean}
 
-each_clean : (ts : List (List ℕ)) (ds : List Door) → Each ts ds → All Clean ts
+each_clean : (ts : List (List ℕ)) (ds : List Door) → Each ts ds → AllByRecursion Clean ts
 each_clean [] ds h = tt
 each_clean (t ∷ ts) [] h = absurd h
 each_clean (t ∷ ts) (d ∷ ds) h = (written_clean t d h.0, each_clean ts ds h.1)

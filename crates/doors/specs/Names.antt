@@ -1,6 +1,6 @@
 -- A door's name: characters of A-Z, a-z, 0-9 and '-', filled up with zero bytes.
 use Rattle.std.specs.Prelude.{◌≡◌, ℕ, ◌-◌, ◌≤◌, Bool, true, cond, ◌&&◌, ◌||◌, List, [], ◌∷◌, ◌++◌, length, replicate, ◌==◌, nat_le}
-use Rattle.std.specs.List.{AllByRecursion as All}
+use Rattle.std.specs.List.{AllByRecursion}
 
 abbrev pub is_letter : ℕ → Bool
 is_letter c = (nat_le 65 c && nat_le c 90) || ((nat_le 97 c && nat_le c 122) || ((nat_le 48 c && nat_le c 57) || c == 45))
@@ -21,7 +21,7 @@ padded (c ∷ cs) = cond (c == 0) (zeros cs) (is_letter c && padded cs)
 pub record Named (text name : List ℕ) : Type 0 where
   pub some : 1 ≤ length text
   pub few : length text ≤ 10
-  pub letters : All Letter text
+  pub letters : AllByRecursion Letter text
   pub filled : name ≡ text ++ replicate (10 - length text) 0
 
 -- the text of a name, without the zero bytes

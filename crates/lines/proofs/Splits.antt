@@ -3,7 +3,7 @@ use Rattle.std.proofs.Common.{◌≡◌, ℕ, ◌+◌, ◌<◌, ◌≤◌, Bool,
 use Rattle.std.proofs.ByRecursion.{All-from_get_or}
 use Rattle.std.proofs.lemmas.List.{drop_more, get_or-take, length-take-le, take_all, take-append-drop}
 use Rattle.std.proofs.lemmas.Bool.Decides.{eqb_tells, nat_tests}
-use Rattle.std.specs.List.{AllByRecursion as All}
+use Rattle.std.specs.List.{AllByRecursion}
 use Rattle.lines.specs.Lines.{ended, front, lines, unended}
 
 abbrev pub NotLf : ℕ → Type 0
@@ -11,7 +11,7 @@ NotLf c = c ≡ 10 → ⊥
 
 -- not empty, and without LF
 abbrev pub Clean : List ℕ → Type 0
-Clean t = All NotLf t × (1 ≤ length t)
+Clean t = AllByRecursion NotLf t × (1 ≤ length t)
 
 pub lines_nil : lines [] ≡ []
 unfolding lines
@@ -25,7 +25,7 @@ lines_more : (c : ℕ) (cs : List ℕ) → NotLf c → lines (c ∷ cs) ≡ fron
 unfolding lines
 lines_more c cs n = let e : eqb c 10 ≡ false = grind (arith, nat_tests) in ap (λ (b : Bool). cond b ([] ∷ lines cs) (front c (lines cs))) e
 
-pub lines_line : (l rest : List ℕ) → All NotLf l → lines (l ++ 10 ∷ rest) ≡ l ∷ lines rest
+pub lines_line : (l rest : List ℕ) → AllByRecursion NotLf l → lines (l ++ 10 ∷ rest) ≡ l ∷ lines rest
 lines_line [] rest h = lines_lf rest
 lines_line (c ∷ l) rest h = lines_more c (l ++ 10 ∷ rest) h.0 ∙ ap (front c) (lines_line l rest h.1)
 
@@ -34,11 +34,11 @@ lines_last [] h = absurd (not-suc-le-zero h.1)
 lines_last (c ∷ []) h = lines_more c [] h.0.0 ∙ ap (front c) lines_nil
 lines_last (c ∷ d ∷ l) h = lines_more c (d ∷ l) h.0.0 ∙ ap (front c) (lines_last (d ∷ l) (h.0.1, omega arith))
 
-pub lines-ended : (ts : List (List ℕ)) → All Clean ts → lines (ended ts) ≡ ts
+pub lines-ended : (ts : List (List ℕ)) → AllByRecursion Clean ts → lines (ended ts) ≡ ts
 lines-ended [] h = lines_nil
 lines-ended (t ∷ ts) h = lines_line t (ended ts) h.0.0 ∙ ap (λ (r : List (List ℕ)). t ∷ r) (lines-ended ts h.1)
 
-pub lines-unended : (ts : List (List ℕ)) → All Clean ts → lines (unended ts) ≡ ts
+pub lines-unended : (ts : List (List ℕ)) → AllByRecursion Clean ts → lines (unended ts) ≡ ts
 lines-unended [] h = lines_nil
 lines-unended (t ∷ []) h = lines_last t h.0
 lines-unended (t ∷ u ∷ ts) h = lines_line t (unended (u ∷ ts)) h.0.0 ∙ ap (λ (r : List (List ℕ)). t ∷ r) (lines-unended (u ∷ ts) h.1)
@@ -69,7 +69,7 @@ joins_lines (c ∷ cs) = go (eqb_tells c 10) (joins_lines cs)
 
 -- the first line of a text, found by its LF
 module _ (s : List ℕ) (end : ℕ) (w : end ≤ length s) (before : (k : ℕ) → k < end → get_or s k 0 ≡ 10 → ⊥) where
-  front_clean : All NotLf (take end s)
+  front_clean : AllByRecursion NotLf (take end s)
   front_clean =
       let l : length (take end s) ≡ end = length-take-le end s w in
       All-from_get_or NotLf (take end s) 0 (λ i h e. let k : i < end = omega arith in before i k (sym (get_or-take end s i 0 k) ∙ e))
@@ -82,4 +82,4 @@ module _ (s : List ℕ) (end : ℕ) (w : end ≤ length s) (before : (k : ℕ) �
   pub line_all : end ≡ length s → 1 ≤ length s → lines s ≡ s ∷ lines []
   line_all e h =
       let t : take end s ≡ s = take_all end s (omega arith) in
-      lines_last s (subst (All NotLf) t front_clean, h) ∙ ap (λ (r : List (List ℕ)). s ∷ r) (sym lines_nil)
+      lines_last s (subst (AllByRecursion NotLf) t front_clean, h) ∙ ap (λ (r : List (List ℕ)). s ∷ r) (sym lines_nil)
