@@ -6,7 +6,6 @@ mod tests {
     use decimal::take_number;
     use doors::{Door, Fault, RoundError, lay_round, parse_door, parse_round, read_round};
     use std::alloc::{AllocError, Global};
-    use std::process::Abort;
     use std::test::Fail;
 
     // The text of a round of `n` lines, each of them this one.
@@ -18,12 +17,12 @@ mod tests {
         Ok(text)
     }
 
-    fn wrong(rt: &impl Abort, line: &[u8], fault: Fault) {
-        assert_eq!(rt; parse_door(line).err(), Some(fault));
+    fn wrong(line: &[u8], fault: Fault) -> bool {
+        parse_door(line).err() == Some(fault)
     }
 
-    fn refused(rt: &impl Abort, heap: Global, input: &[u8], error: RoundError) {
-        assert_eq!(rt; parse_round(heap, input).err(), Some(error));
+    fn refused(heap: Global, input: &[u8], error: RoundError) -> bool {
+        parse_round(heap, input).err() == Some(error)
     }
 
     #[test]
@@ -56,32 +55,32 @@ mod tests {
 
     #[test]
     fn one_more_is_too_much(rt: HostRuntime) {
-        wrong(&rt, b"65536 42 9 A", Fault::Number);
-        wrong(&rt, b"000007 42 9 A", Fault::Number);
-        wrong(&rt, b"0 42 9 A", Fault::Number);
-        wrong(&rt, b"7 1000000 9 A", Fault::Badge);
-        wrong(&rt, b"7 42 10000000000 A", Fault::Time);
-        wrong(&rt, b"7 42 9 Elevenchars", Fault::Name);
+        assert!(rt; wrong(b"65536 42 9 A", Fault::Number));
+        assert!(rt; wrong(b"000007 42 9 A", Fault::Number));
+        assert!(rt; wrong(b"0 42 9 A", Fault::Number));
+        assert!(rt; wrong(b"7 1000000 9 A", Fault::Badge));
+        assert!(rt; wrong(b"7 42 10000000000 A", Fault::Time));
+        assert!(rt; wrong(b"7 42 9 Elevenchars", Fault::Name));
     }
 
     #[test]
     fn each_fault_is_named(rt: HostRuntime) {
-        wrong(&rt, b"", Fault::Number);
-        wrong(&rt, b" 7 42 9 A", Fault::Number);
-        wrong(&rt, b"7", Fault::Number);
-        wrong(&rt, b"7  42 9 A", Fault::Badge);
-        wrong(&rt, b"7 -1 9 A", Fault::Badge);
-        wrong(&rt, b"7 42 nine A", Fault::Time);
-        wrong(&rt, b"7 42 9 ", Fault::Name);
-        wrong(&rt, b"7 42 9 A B", Fault::Name);
+        assert!(rt; wrong(b"", Fault::Number));
+        assert!(rt; wrong(b" 7 42 9 A", Fault::Number));
+        assert!(rt; wrong(b"7", Fault::Number));
+        assert!(rt; wrong(b"7  42 9 A", Fault::Badge));
+        assert!(rt; wrong(b"7 -1 9 A", Fault::Badge));
+        assert!(rt; wrong(b"7 42 nine A", Fault::Time));
+        assert!(rt; wrong(b"7 42 9 ", Fault::Name));
+        assert!(rt; wrong(b"7 42 9 A B", Fault::Name));
         assert!(rt; Fault::Time.text().starts_with("the time"));
     }
 
     #[test]
     fn nothing_follows_a_line(rt: HostRuntime) {
-        wrong(&rt, b"7 42 9 A ", Fault::Name);
-        wrong(&rt, b"7 42 9 A\r", Fault::Name);
-        wrong(&rt, b"7 42 9 A\n", Fault::Name);
+        assert!(rt; wrong(b"7 42 9 A ", Fault::Name));
+        assert!(rt; wrong(b"7 42 9 A\r", Fault::Name));
+        assert!(rt; wrong(b"7 42 9 A\n", Fault::Name));
     }
 
     #[test]
@@ -121,9 +120,9 @@ mod tests {
         let text = repeated(rt.alloc(), b"7 42 9 A\n", 41)?;
         assert!(rt; text.len() == 9 * 41);
         let input = text.as_slice();
-        refused(&rt, rt.alloc(), b"", RoundError::Count(0));
-        refused(&rt, rt.alloc(), &input[0..9 * 39], RoundError::Count(39));
-        refused(&rt, rt.alloc(), input, RoundError::Count(41));
+        assert!(rt; refused(rt.alloc(), b"", RoundError::Count(0)));
+        assert!(rt; refused(rt.alloc(), &input[0..9 * 39], RoundError::Count(39)));
+        assert!(rt; refused(rt.alloc(), input, RoundError::Count(41)));
         assert_eq!(rt; parse_round(rt.alloc(), &input[0..9 * 40])?.len(), 40);
         Ok(())
     }
@@ -145,14 +144,14 @@ mod tests {
             number: 1,
             fault: Fault::Name,
         };
-        refused(&rt, rt.alloc(), windows.as_slice(), first);
+        assert!(rt; refused(rt.alloc(), windows.as_slice(), first));
         let mut text = repeated(rt.alloc(), b"7 42 9 A\n", 39)?;
         text.extend_from_slice(b"\n")?;
         let last = RoundError::Line {
             number: 40,
             fault: Fault::Number,
         };
-        refused(&rt, rt.alloc(), text.as_slice(), last);
+        assert!(rt; refused(rt.alloc(), text.as_slice(), last));
         Ok(())
     }
 
