@@ -11,37 +11,39 @@ pub type Block = u128;
 // The length of a block in bytes.
 pub const BLOCK: usize = 16;
 
-pub fn from_bytes(bytes: [u8; 16]) -> Block
+// `Block` is `u128` itself, so its conversions are functions; a `From` would ask for a type around the number.
+#[tactic(auto, using(crate::proofs::Bytes::number_16), unfolding(crate::specs::Blocks::to_block))]
+pub fn from_bytes(bytes: [u8; BLOCK]) -> Block
     ensures { result ≡ to_block bytes }
 {
     u128::from_be_bytes(bytes)
 }
 
-pub fn to_bytes(block: Block) -> [u8; 16]
+#[tactic(auto, unfolding(crate::specs::Blocks::to_bytes))]
+pub fn to_bytes(block: Block) -> [u8; BLOCK]
     ensures { result ≡ to_bytes block }
 {
     block.to_be_bytes()
 }
 
 // The block that a part of a string holds, or 0 where the part is not one block long.
+#[tactic(auto, unfolding(crate::specs::Blocks::loaded))]
 pub fn load(part: &[u8]) -> Block
     ensures { result ≡ loaded part.now }
 {
-    if part.len() != BLOCK {
-        return 0;
+    match <[u8; BLOCK]>::try_from(part) {
+        Ok(bytes) => from_bytes(bytes),
+        Err(_) => 0,
     }
-    let mut bytes = [0u8; 16];
-    bytes.copy_from_slice(part);
-    from_bytes(bytes)
 }
 
 // Writes the block over a part of a string; a part that is not one block long stays as it is.
+#[tactic(auto, unfolding(crate::specs::Blocks::stored))]
 pub fn store(part: &mut [u8], block: Block)
     ensures { part.new ≡ stored part.old block }
 {
     if part.len() == BLOCK {
-        let bytes = to_bytes(block);
-        part.copy_from_slice(&bytes);
+        part.copy_from_slice(&to_bytes(block));
     }
 }
 

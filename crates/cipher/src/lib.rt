@@ -37,7 +37,7 @@ pub trait Cipher: Sized {
     ghost undoing: { (k : Self.Key) → Undoing (sealed k) (opened k) };
 }
 
-// Opening undoes sealing.
+// Opening undoes sealing. Two laws, one a call, as `seal` and `open` are two: a way as a parameter would only choose between them.
 pub fn opened_again<C: Cipher>(cipher: &C, block: Block) -> Block
     ensures { result ≡ block }
 {

@@ -4,6 +4,7 @@ use Rattle.block.specs.Blocks.{to_bytes, xor_bytes}
 use Rattle.refusal.specs.declared.Refusal.{Refusal}
 use Rattle.refusal.specs.Refusals.{number_of}
 use Rattle.keys.specs.declared.HalfKey.{HalfKey}
+use Rattle.keys.specs.declared.RefusedCard.{RefusedCard}
 use Rattle.keys.specs.declared.WholeKey.{WholeKey}
 
 -- a whole key, by its block
@@ -32,6 +33,6 @@ abbrev pub TurnedDown : List ℕ → List ℕ → ℕ → Type 0
 TurnedDown f c n = ((n ≡ 5) × (length c ≢ 16)) ⊎ ((n ≡ 6) × (length c ≡ 16) × (c ≡ f))
 
 -- the second card: the two cards XORed, or the half key back with the refusal
-abbrev pub LaidSecond : HalfKey → List ℕ → Result WholeKey (HalfKey × Refusal) → Type 0
+abbrev pub LaidSecond : HalfKey → List ℕ → Result WholeKey RefusedCard → Type 0
 LaidSecond h c (Ok w) = (length c ≡ 16) × (c ≢ card_of h) × (key_of w ≡ xor_bytes (card_of h) c)
-LaidSecond h c (Err p) = (p.0 ≡ h) × TurnedDown (card_of h) c (number_of p.1)
+LaidSecond h c (Err r) = (r.half ≡ h) × TurnedDown (card_of h) c (number_of r.refusal)

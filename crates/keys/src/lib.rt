@@ -20,13 +20,26 @@ pub struct WholeKey {
     value: u128,
 }
 
+// A second card that was refused: why, and the half key, so that another card can be laid on it.
+#[derive(Drop)]
+pub struct RefusedCard {
+    pub half: HalfKey,
+    pub refusal: Refusal,
+}
+
+impl From<RefusedCard> for Refusal {
+    ghost from_gives = { λ card refusal. refusal ≡ card.refusal };
+
+    fn from(card: RefusedCard) -> Refusal {
+        card.refusal
+    }
+}
+
 // A card's bytes as a block, if it is a card.
 fn read_card(card: &[u8]) -> Option<Block>
     ensures { MatchOption result (length card.now ≢ 16) (λ n. Card card.now n) }
 {
-    let Ok(bytes) = <[u8; 16]>::try_from(card) else {
-        return None;
-    };
+    let bytes = <[u8; 16]>::try_from(card).ok()?;
     known_bytes(card);
     Some(from_bytes(bytes))
 }
@@ -35,21 +48,30 @@ impl HalfKey {
     pub fn first_card(card: &[u8]) -> Result<HalfKey, Refusal>
         ensures { LaidFirst card.now result }
     {
-        let Some(card) = read_card(card) else {
-            return Err(Refusal::NotACard);
-        };
+        let card = read_card(card).ok_or(Refusal::NotACard)?;
         Ok(HalfKey { card })
     }
 
-    // The whole key; a refused card hands the half key back, so that another can be laid.
-    pub fn second_card(self, card: &[u8]) -> Result<WholeKey, (HalfKey, Refusal)>
+    fn refused(self, refusal: Refusal) -> RefusedCard
+        ensures half { result.half ≡ self }
+        ensures refusal { result.refusal ≡ refusal }
+    {
+        RefusedCard {
+            half: self,
+            refusal,
+        }
+    }
+
+    // The whole key; a refused card hands the half key back.
+    pub fn second_card(self, card: &[u8]) -> Result<WholeKey, RefusedCard>
         ensures { LaidSecond self card.now result }
     {
+        // `ok_or` would take the half key away before it is known whether there is an error to carry it.
         let Some(second) = read_card(card) else {
-            return Err((self, Refusal::NotACard));
+            return Err(self.refused(Refusal::NotACard));
         };
         if second == self.card {
-            return Err((self, Refusal::SameCard));
+            return Err(self.refused(Refusal::SameCard));
         }
         Ok(WholeKey {
             value: self.card ^ second,

@@ -1,11 +1,12 @@
 // A sealing mode: for each tweak and each permitted length, a sealing and an opening function on strings of that length.
 #![tactic(auto)]
 
-ghost use Rattle.std.specs.Prelude.{◌≡◌, true, length};
-ghost use Rattle.mode.specs.Modes.{Lawful, Sealing, mode_answer, opened_or, permitted, sealed_or, sector_size};
+ghost use Rattle.std.specs.Prelude.{◌≡◌, ℕ, ◌%◌, true, ◌&&◌, length, ◌==◌, nat_le};
+ghost use Rattle.mode.specs.Modes.{Alike, Lawful, Sealing, mode_answer, opened_or, permitted, sealed_or, sector_size};
+ghost use Rattle.mode.specs.Walks.{Answers, AnswersBoth, walked};
 ghost use Rattle.refusal.specs.Refusals.{answer};
 
-use block::{BLOCK, Block, known_bytes};
+use block::{BLOCK, Block, known_bytes, load, store};
 use refusal::Refusal;
 
 // A sector size is a multiple of a block from the smallest to the largest.
@@ -29,11 +30,18 @@ pub trait Mode {
     ghost lawful: { (m : Self) → Lawful (sealing m) };
 }
 
+// Whether a length is a multiple of a block from the least to the most.
+fn is_whole(len: usize, least: usize, most: usize) -> bool
+    ensures { result ≡ (len % 16 == 0 && (nat_le least len && nat_le len most)) }
+{
+    len % BLOCK == 0 && (least..=most).contains(&len)
+}
+
 // Whether the modes permit a length.
 pub fn permits(len: usize) -> bool
     ensures { result ≡ permitted len }
 {
-    len % BLOCK == 0 && len >= 32 && len <= 4096
+    is_whole(len, 32, 4096)
 }
 
 // Whether a length is a sector size; every mode permits a sector size.
@@ -41,10 +49,10 @@ pub fn is_sector_size(len: usize) -> bool
     ensures value { result ≡ sector_size len }
     ensures permitted { result ≡ true → permitted len ≡ true }
 {
-    len % BLOCK == 0 && len >= SMALLEST_SECTOR && len <= LARGEST_SECTOR
+    is_whole(len, SMALLEST_SECTOR, LARGEST_SECTOR)
 }
 
-// Opening undoes sealing: the text comes back.
+// Opening undoes sealing: the text comes back. Two laws, one a call, as `seal` and `open` are two: a way as a parameter would only choose between them.
 pub fn opened_again<M: Mode>(mode: &M, tweak: Block, text: &mut [u8]) -> Result<(), Refusal>
     ensures reply { answer result ≡ mode_answer (length text.old) }
     ensures bytes { text.new ≡ text.old }
@@ -62,4 +70,46 @@ pub fn sealed_again<M: Mode>(mode: &M, tweak: Block, text: &mut [u8]) -> Result<
     known_bytes(text);
     mode.open(tweak, text)?;
     mode.seal(tweak, text)
+}
+
+// A mode that its keys alone fix.
+pub trait Keyed: Mode + Sized {
+    type Keys;
+
+    // what keys make
+    ghost made: { Self.Keys → Sealing };
+
+    fn from_keys(keys: Self::Keys) -> Self
+        ensures { Self.sealing result ≡ made keys };
+}
+
+// The modes of two wands, each from its own keys; where the keys are equal, the modes seal alike at every size.
+pub fn new_pair<M: Keyed>(keys: M::Keys, keys2: M::Keys) -> (M, M)
+    ensures one { M.sealing result.0 ≡ M.made keys }
+    ensures other { M.sealing result.1 ≡ M.made keys2 }
+    ensures alike { keys ≡ keys2 → (size : ℕ) → Alike size (M.sealing result.0) (M.sealing result.1) }
+{
+    (M::from_keys(keys), M::from_keys(keys2))
+}
+
+// Each whole block b of a text becomes f(s, b), in place, where the state s begins as `start` and `next` steps it from block to block.
+pub fn walk_blocks<F: Fn(Block, Block) -> Block, N: Fn(Block) -> Block>(
+    text: &mut [u8],
+    start: Block,
+    f: F,
+    next: N,
+)
+    requires turns { F.IsAlwaysCallable f }
+    requires steps { N.IsAlwaysCallable next }
+    ensures { (g : ℕ → ℕ → ℕ) (h : ℕ → ℕ) → AnswersBoth (F.post f) g → Answers (N.post next) h → text.new ≡ walked g h start text.old }
+{
+    let mut state = start;
+    // By index: of what `chunks_mut` lends, std says only how long it is in the end.
+    for i in 0..text.len() / BLOCK {
+        let at = BLOCK * i;
+        let part = &mut text[at..at + BLOCK];
+        let block = f(state, load(part));
+        store(part, block);
+        state = next(state);
+    }
 }
