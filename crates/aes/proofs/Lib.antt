@@ -1,3 +1,4 @@
 pub mod KeyWords
-pub mod Loops
 pub mod NextKey
+pub mod Keys
+pub mod Runs

@@ -1,31 +1,10 @@
--- A test that passes at each number below n, computed once.
-use Rattle.std.proofs.Common.{◌≡◌, ℕ, zero, suc, ◌<◌, Bool, true, false, T, eqb, sym, subst, inl, inr, le_of_suc-le-suc, not-suc-le-zero, eq-or-lt_of_le, eqb→eq}
+-- Functions of the numbers below n, computed once: as a constant table, and against each other.
+use Rattle.std.proofs.Common.{◌≡◌, ℕ, ◌<◌, List, get_or, map, sym, ap, ◌∙◌, zero-add}
+use Rattle.std.specs.List.{range_with_len}
+use Rattle.std.proofs.lemmas.List.FromFn.{get_or-map-range_with_len}
 
-abbrev pub both : Bool → Bool → Bool
-both true b = b
-both false b = false
+pub entry : {X : Type 0} (f : ℕ → X) (n k : ℕ) (d : X) → k < n → get_or (map f (range_with_len 0 n)) k d ≡ f k
+entry f n k d h = get_or-map-range_with_len f 0 n k k d h (zero-add k)
 
-pub both_left : (a b : Bool) → T (both a b) → T a
-both_left true b t = tt
-both_left false b t = t
-
-pub both_right : (a b : Bool) → T (both a b) → T b
-both_right true b t = t
-both_right false b t = absurd t
-
-unfoldable pub below : (ℕ → Bool) → ℕ → Bool
-below f zero = true
-below f (suc n) = both (f n) (below f n)
-
-pub below_at : (f : ℕ → Bool) (n : ℕ) → T (below f n) → (k : ℕ) → k < n → T (f k)
-unfolding below
-below_at f zero t k h = absurd (not-suc-le-zero h)
-below_at f (suc n) t k h =
-    elim (eq-or-lt_of_le (le_of_suc-le-suc h)) [
-      | inl e ↦ subst (λ (m : ℕ). T (f m)) (sym e) (both_left (f n) (below f n) t)
-      | inr l ↦ below_at f n (both_right (f n) (below f n) t) k l
-    ]
-
--- two functions that agree at each number below n
-pub agree : (f g : ℕ → ℕ) (n : ℕ) → T (below (λ k. eqb (f k) (g k)) n) → (k : ℕ) → k < n → f k ≡ g k
-agree f g n t k h = eqb→eq (f k) (g k) (below_at (λ k. eqb (f k) (g k)) n t k h)
+pub agree : {X : Type 0} (f g : ℕ → X) (n : ℕ) → map f (range_with_len 0 n) ≡ map g (range_with_len 0 n) → (k : ℕ) → k < n → f k ≡ g k
+agree {X} f g n e k h = sym (entry f n k (f k) h) ∙ ap (λ (l : List X). get_or l k (f k)) e ∙ entry g n k (f k) h

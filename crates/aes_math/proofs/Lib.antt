@@ -4,5 +4,4 @@ pub mod ByteLaws
 pub mod StateLaws
 pub mod NumLaws
 pub mod WordSums
-pub mod Table
 pub mod Facts

@@ -1,11 +1,11 @@
 -- Each transformation of the state, and its inverse; then Cipher and InvCipher.
-use Rattle.std.proofs.Common.{◌≡◌, ℕ, zero, suc, ◌<◌, Bool, T, eqb, sym, refl, ap, ◌∙◌, subst, eqb→eq}
+use Rattle.std.proofs.Common.{◌≡◌, ℕ, zero, suc, ◌<◌, sym, refl, ap, ◌∙◌, subst}
 use lib.Bits.{bit_xor, xor_lt, xor_zero_r}
 use Rattle.aes_math.specs.Field.{xtime, scale, mul_bits, mul}
 use Rattle.aes_math.specs.Rounds.{Word, State, add_word, sub_word, inv_sub_word, sum4, mix_word, inv_mix_word, sub_bytes, inv_sub_bytes, shift_rows, inv_shift_rows, mix_columns, inv_mix_columns, add_round_key, round, inv_round, rounds, inv_rounds, cipher, inv_cipher}
 use Rattle.aes_math.specs.Facts.{Bytes, ByteState}
 use Rattle.aes_math.specs.Parts.{mix0, mix1, mix2, mix3, inv0, inv1, inv2, inv3}
-use Rattle.aes_math.proofs.Below.{both, both_left, both_right, below, below_at}
+use Rattle.aes_math.proofs.Below.{agree}
 use Rattle.aes_math.proofs.FieldLaws.{swap, undo, mul_xor, mul_lt}
 use Rattle.aes_math.proofs.ByteLaws.{inv_sbox-sbox, sbox-inv_sbox, sbox_lt, inv_sbox_lt}
 
@@ -79,53 +79,37 @@ units a b c d =
     quad (xor_zero_r (bit_xor (bit_xor a 0) 0) ∙ xor_zero_r (bit_xor a 0) ∙ xor_zero_r a)
     (xor_zero_r (bit_xor b 0) ∙ xor_zero_r b) (xor_zero_r c) refl
 
-abbrev pub same : Word → Word → Bool
-same v w = both (eqb v.0 w.0) (both (eqb v.1 w.1) (both (eqb v.2 w.2) (eqb v.3 w.3)))
-
-pub same_path : (v w : Word) → T (same v w) → v ≡ w
-same_path v w t =
-    let rest = both_right (eqb v.0 w.0) (both (eqb v.1 w.1) (both (eqb v.2 w.2) (eqb v.3 w.3))) t in
-    let last = both_right (eqb v.1 w.1) (both (eqb v.2 w.2) (eqb v.3 w.3)) rest in
-    quad
-    (eqb→eq v.0 w.0 (both_left (eqb v.0 w.0) (both (eqb v.1 w.1) (both (eqb v.2 w.2) (eqb v.3 w.3))) t))
-    (eqb→eq v.1 w.1 (both_left (eqb v.1 w.1) (both (eqb v.2 w.2) (eqb v.3 w.3)) rest))
-    (eqb→eq v.2 w.2 (both_left (eqb v.2 w.2) (eqb v.3 w.3) last))
-    (eqb→eq v.3 w.3 (both_right (eqb v.2 w.2) (eqb v.3 w.3) last))
-
-pub agree_word : (f g : ℕ → Word) (n : ℕ) → T (below (λ k. same (f k) (g k)) n) → (k : ℕ) → k < n → f k ≡ g k
-agree_word f g n t k h = same_path (f k) (g k) (below_at (λ k. same (f k) (g k)) n t k h)
-
 inv_mix_mix0 : (a : ℕ) → a < 256 → inv_mix_word (mix0 a) ≡ (a, 0, 0, 0)
-unfolding below mul mul_bits scale xtime
-inv_mix_mix0 = agree_word (λ a. inv_mix_word (mix0 a)) (λ a. (a, 0, 0, 0)) 256 tt
+unfolding mul mul_bits scale xtime
+inv_mix_mix0 = agree (λ a. inv_mix_word (mix0 a)) (λ a. (a, 0, 0, 0)) 256 refl
 
 mix_inv0 : (a : ℕ) → a < 256 → mix_word (inv0 a) ≡ (a, 0, 0, 0)
-unfolding below mul mul_bits scale xtime
-mix_inv0 = agree_word (λ a. mix_word (inv0 a)) (λ a. (a, 0, 0, 0)) 256 tt
+unfolding mul mul_bits scale xtime
+mix_inv0 = agree (λ a. mix_word (inv0 a)) (λ a. (a, 0, 0, 0)) 256 refl
 
 inv_mix_mix1 : (a : ℕ) → a < 256 → inv_mix_word (mix1 a) ≡ (0, a, 0, 0)
-unfolding below mul mul_bits scale xtime
-inv_mix_mix1 = agree_word (λ a. inv_mix_word (mix1 a)) (λ a. (0, a, 0, 0)) 256 tt
+unfolding mul mul_bits scale xtime
+inv_mix_mix1 = agree (λ a. inv_mix_word (mix1 a)) (λ a. (0, a, 0, 0)) 256 refl
 
 mix_inv1 : (a : ℕ) → a < 256 → mix_word (inv1 a) ≡ (0, a, 0, 0)
-unfolding below mul mul_bits scale xtime
-mix_inv1 = agree_word (λ a. mix_word (inv1 a)) (λ a. (0, a, 0, 0)) 256 tt
+unfolding mul mul_bits scale xtime
+mix_inv1 = agree (λ a. mix_word (inv1 a)) (λ a. (0, a, 0, 0)) 256 refl
 
 inv_mix_mix2 : (a : ℕ) → a < 256 → inv_mix_word (mix2 a) ≡ (0, 0, a, 0)
-unfolding below mul mul_bits scale xtime
-inv_mix_mix2 = agree_word (λ a. inv_mix_word (mix2 a)) (λ a. (0, 0, a, 0)) 256 tt
+unfolding mul mul_bits scale xtime
+inv_mix_mix2 = agree (λ a. inv_mix_word (mix2 a)) (λ a. (0, 0, a, 0)) 256 refl
 
 mix_inv2 : (a : ℕ) → a < 256 → mix_word (inv2 a) ≡ (0, 0, a, 0)
-unfolding below mul mul_bits scale xtime
-mix_inv2 = agree_word (λ a. mix_word (inv2 a)) (λ a. (0, 0, a, 0)) 256 tt
+unfolding mul mul_bits scale xtime
+mix_inv2 = agree (λ a. mix_word (inv2 a)) (λ a. (0, 0, a, 0)) 256 refl
 
 inv_mix_mix3 : (a : ℕ) → a < 256 → inv_mix_word (mix3 a) ≡ (0, 0, 0, a)
-unfolding below mul mul_bits scale xtime
-inv_mix_mix3 = agree_word (λ a. inv_mix_word (mix3 a)) (λ a. (0, 0, 0, a)) 256 tt
+unfolding mul mul_bits scale xtime
+inv_mix_mix3 = agree (λ a. inv_mix_word (mix3 a)) (λ a. (0, 0, 0, a)) 256 refl
 
 mix_inv3 : (a : ℕ) → a < 256 → mix_word (inv3 a) ≡ (0, 0, 0, a)
-unfolding below mul mul_bits scale xtime
-mix_inv3 = agree_word (λ a. mix_word (inv3 a)) (λ a. (0, 0, 0, a)) 256 tt
+unfolding mul mul_bits scale xtime
+mix_inv3 = agree (λ a. mix_word (inv3 a)) (λ a. (0, 0, 0, a)) 256 refl
 
 pub inv_mix_mix : (w : Word) → Bytes w → inv_mix_word (mix_word w) ≡ w
 inv_mix_mix w h =

@@ -1,57 +1,32 @@
 // Speck128/128, as its authors published it: 32 rounds on two words of 64 bits.
 #![tactic(auto)]
 
-ghost use Rattle.std.specs.Prelude.{◌≡◌, ◌^◌, ◌<◌};
+ghost use Rattle.std.specs.Prelude.{◌≡◌};
 ghost use Rattle.keys.specs.Cards.{whole_key};
 ghost use Rattle.speck.specs.Facts.{Example, Rounds, Schedule, Undone};
-ghost use Rattle.speck.specs.Speck.{block_of, left3, left8, opened, pair_of, right3, right8, round_of, sealed, unround_of};
+ghost use Rattle.speck.specs.Speck.{block_of, opened, pair_of, round_of, sealed, unround_of};
 ghost use Rattle.speck.specs.Laws.{undone};
 
 use block::{Block, swap};
 use cipher::Cipher;
 use keys::WholeKey;
 
-const ROUNDS: usize = 32;
-
-// The rotations, as sums in the contracts.
-fn right_by_8(x: u64) -> u64
-    ensures { result ≡ right8 x }
+// One round on the left word and the right word under the round key k.
+pub fn round(pair: (u64, u64), k: u64) -> (u64, u64)
+    ensures { result ≡ round_of k pair }
 {
-    x.rotate_right(8)
-}
-
-fn left_by_3(x: u64) -> u64
-    ensures { result ≡ left3 x }
-{
-    x.rotate_left(3)
-}
-
-fn left_by_8(x: u64) -> u64
-    ensures { result ≡ left8 x }
-{
-    x.rotate_left(8)
-}
-
-fn right_by_3(x: u64) -> u64
-    ensures { result ≡ right3 x }
-{
-    x.rotate_right(3)
-}
-
-// One round on the left word x and the right word y under the round key k.
-pub fn round(x: u64, y: u64, k: u64) -> (u64, u64)
-    ensures { result ≡ round_of k (x, y) }
-{
-    let x = right_by_8(x).wrapping_add(y) ^ k;
-    (x, left_by_3(y) ^ x)
+    let (x, y) = pair;
+    let x = x.rotate_right(8).wrapping_add(y) ^ k;
+    (x, y.rotate_left(3) ^ x)
 }
 
 // The inverse of a round.
-pub fn unround(x: u64, y: u64, k: u64) -> (u64, u64)
-    ensures { result ≡ unround_of k (x, y) }
+pub fn unround(pair: (u64, u64), k: u64) -> (u64, u64)
+    ensures { result ≡ unround_of k pair }
 {
-    let y = right_by_3(y ^ x);
-    (left_by_8((x ^ k).wrapping_sub(y)), y)
+    let (x, y) = pair;
+    let y = (y ^ x).rotate_right(3);
+    ((x ^ k).wrapping_sub(y).rotate_left(8), y)
 }
 
 // Rounds and whole blocks are undone both ways, under every key; the authors' test vector comes out.
@@ -69,10 +44,11 @@ fn words(block: Block) -> (u64, u64)
     ((n >> 64) as u64, (n % 0x1_0000_0000_0000_0000) as u64)
 }
 
-fn joined(x: u64, y: u64) -> Block
-    ensures { result ≡ block_of (x, y) }
+fn joined(pair: (u64, u64)) -> Block
+    ensures { result ≡ block_of pair }
 {
-    swap(x as u128 * 0x1_0000_0000_0000_0000 + y as u128)
+    let (x, y) = pair;
+    swap(u128::from(x) << 64 | u128::from(y))
 }
 
 // The round keys, worked out at making, and the key they come from.
@@ -86,15 +62,11 @@ pub struct Speck128 {
 fn expand(key: Block) -> [u64; 32]
     ensures { Schedule key result }
 {
-    let (l, k) = words(key);
-    let mut keys = [k; 32];
-    let mut left = l;
-    let mut right = k;
-    for i in 0..ROUNDS - 1 {
-        let (x, y) = round(left, right, i as u64);
-        left = x;
-        right = y;
-        keys[i + 1] = right;
+    let mut pair = words(key);
+    let mut keys = [0; 32];
+    for (i, k) in keys.iter_mut().enumerate() {
+        *k = pair.1;
+        pair = round(pair, i as u64);
     }
     keys
 }
@@ -114,35 +86,31 @@ impl Cipher for Speck128 {
 
     fn new(from: WholeKey) -> Self {
         let key = from.into_block();
-        let keys = expand(key);
-        Speck128 { key, keys }
+        Speck128 {
+            key,
+            keys: expand(key),
+        }
     }
 
+    // Sealing and opening go different ways through the keys, by different rounds: what is the same in the two is the `for`.
     fn seal(&self, block: Block) -> Block {
-        let (x, y) = words(block);
-        let mut left = x;
-        let mut right = y;
-        for i in 0..ROUNDS {
-            let (a, b) = round(left, right, self.keys[i]);
-            left = a;
-            right = b;
+        let mut pair = words(block);
+        for k in &self.keys {
+            pair = round(pair, *k);
         }
-        joined(left, right)
+        joined(pair)
     }
 
     fn open(&self, block: Block) -> Block {
-        let (x, y) = words(block);
-        let mut left = x;
-        let mut right = y;
-        for i in (0..ROUNDS).rev() {
-            let (a, b) = unround(left, right, self.keys[i]);
-            left = a;
-            right = b;
+        let mut pair = words(block);
+        for k in self.keys.iter().rev() {
+            pair = unround(pair, *k);
         }
-        joined(left, right)
+        joined(pair)
     }
 
+    // The same in every cipher of whole keys, but the trait leaves the key's type open and cannot have it.
     fn draw(&self, i: u8) -> WholeKey {
-        WholeKey::without_cards(self.seal(i as u128))
+        WholeKey::without_cards(self.seal(u128::from(i)))
     }
 }

@@ -1,16 +1,18 @@
 use mathlib.Core.Path.{ap, ◌∙◌}
-use Prim.Native.Nat.{ℕ}
-use native.Mathlib.Omega.{arith}
+use Rattle.std.proofs.Common.{ℕ, List}
+use Rattle.aes_math.specs.Rounds.{Word, word_of, inv_mix_word}
 use Rattle.aes_math.specs.Field.{inv_sbox}
-use Rattle.aes_math.specs.Parts.{inv0, inv1, inv2, inv3}
 use Rattle.aes_math.proofs.ByteLaws.{inv_sbox-sbox}
-use Rattle.aes_math.proofs.WordSums.{total4_is}
+use Rattle.aes_math.proofs.StateLaws.{quad}
+use Rattle.aes_math.proofs.NumLaws.{word_bytes}
+use Rattle.aes_math.specs.Facts.{Bytes}
+use Rattle.aes_round.specs.Directions.{substituted, word_in}
 use Rattle.aes_round.proofs.inv_mix.Goals as goal
 
 pub returns : goal.returns
 returns c =
-    total4_is c.td0.result c.td1.result c.td2.result c.td3.result _ _ _ _
-    (c.td0.ensures ∙ ap (λ (x : ℕ). inv0 (inv_sbox x)) c.sub.ensures ∙ ap inv0 (inv_sbox-sbox c.byte0.result (omega arith) ∙ c.byte0.ensures))
-    (c.td1.ensures ∙ ap (λ (x : ℕ). inv1 (inv_sbox x)) c.sub-2.ensures ∙ ap inv1 (inv_sbox-sbox c.byte1.result (omega arith) ∙ c.byte1.ensures))
-    (c.td2.ensures ∙ ap (λ (x : ℕ). inv2 (inv_sbox x)) c.sub-3.ensures ∙ ap inv2 (inv_sbox-sbox c.byte2.result (omega arith) ∙ c.byte2.ensures))
-    (c.td3.ensures ∙ ap (λ (x : ℕ). inv3 (inv_sbox x)) c.sub-4.ensures ∙ ap inv3 (inv_sbox-sbox c.byte3.result (omega arith) ∙ c.byte3.ensures))
+    let w : Word = word_of c.args.w in
+    let h : Bytes w = word_bytes c.args.w in
+    c.mix.ensures ∙ ap (λ (b : List ℕ). inv_mix_word (substituted inv_sbox (word_in b))) c.to_be_bytes.ensures
+    ∙ ap (λ (v : Word). inv_mix_word (substituted inv_sbox v)) c.sub_word.ensures
+    ∙ ap inv_mix_word (quad (inv_sbox-sbox w.0 h.0) (inv_sbox-sbox w.1 h.1) (inv_sbox-sbox w.2 h.2) (inv_sbox-sbox w.3 h.3))

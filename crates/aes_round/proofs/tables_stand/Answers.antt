@@ -1,8 +1,7 @@
 use Rattle.aes_math.specs.Field.{xtime, scale, mul_bits, mul, squares, inverse, bit, digits_of, affine, unaffine, sbox, inv_sbox}
-use Rattle.aes_math.proofs.Table.{table, table_from}
 use Rattle.aes_round.proofs.TableRules.{tables_rule}
 use Rattle.aes_round.proofs.tables_stand.Goals as goal
 
 pub returns : goal.returns
-unfolding table table_from sbox inv_sbox affine unaffine digits_of bit inverse squares mul mul_bits scale xtime
+unfolding sbox inv_sbox affine unaffine digits_of bit inverse squares mul mul_bits scale xtime
 returns c = tables_rule

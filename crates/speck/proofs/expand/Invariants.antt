@@ -1,7 +1,7 @@
-use Rattle.std.proofs.Common.{◌≡◌, ℕ, ◌≤◌, length, get_or}
-use Rattle.speck.specs.Speck.{scheduled}
+use Rattle.std.proofs.Common.{◌≡◌, ℕ, ◌<◌, length, get_or}
+use Rattle.speck.specs.Speck.{pair_of, scheduled}
 use Rattle.speck.proofs.expand.Given as goal
 
 abbrev pub invariant-loop-i : goal.invariant-loop-i
 invariant-loop-i l =
-    (length l.keys ≡ 32) × ((l.left, l.right) ≡ scheduled (l.l, l.k) l.i) × ((j : ℕ) → j ≤ l.i → get_or l.keys j 0 ≡ (scheduled (l.l, l.k) j).1)
+    (length l.k-items ≡ 32) × (l.pair ≡ scheduled (pair_of l.key) l.i) × ((j : ℕ) → j < l.i → get_or l.k-items j 0 ≡ (scheduled (pair_of l.key) j).1)

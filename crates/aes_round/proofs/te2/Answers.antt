@@ -1,9 +1,0 @@
-use mathlib.Core.Path.{ap, ◌∙◌}
-use Rattle.aes_math.specs.Rounds.{Word, word_of}
-use native.Mathlib.Omega.{arith}
-use Rattle.aes_math.proofs.NumLaws.{turn16}
-use Rattle.aes_round.proofs.te2.Goals as goal
-
-pub returns : goal.returns
-returns c =
-    ap word_of c.rotate_right.ensures ∙ turn16 c.te0.result (omega arith) ∙ ap (λ (w : Word). (w.2, w.3, w.0, w.1)) c.te0.ensures
