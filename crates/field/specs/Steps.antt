@@ -1,5 +1,5 @@
 -- The product by steps (NIST SP 800-38D, 6.3), and a table of products.
-use Rattle.std.specs.Prelude.{◌≡◌, ℕ, zero, suc, ◌*◌, ◌/◌, ◌%◌, ◌^◌, ◌<◌, ◌≤◌, List, [], ◌∷◌, bit_xor, slice_index}
+use Rattle.std.specs.Prelude.{◌≡◌, ℕ, zero, suc, ◌-◌, ◌*◌, ◌/◌, ◌%◌, ◌^◌, ◌<◌, ◌≤◌, List, [], ◌∷◌, bit_xor, slice_index, slice_index_or}
 use Rattle.field.specs.Polynomials.{times, modular}
 use Rattle.field.specs.Field.{product, hash}
 
@@ -19,13 +19,17 @@ summed (suc n) x z v = summed n x (added x n z v) (halved v)
 unfoldable pub stepwise : ℕ → ℕ → ℕ
 stepwise x y = summed 128 x 0 y
 
--- entry 16 j + k of a table for h: the product of k 2^(4 j) by h
-unfoldable pub entry : ℕ → ℕ → ℕ
-entry h n = stepwise (n % 16 * 2 ^ (4 * (n / 16))) h
+-- entry k of row i of a table for h: the product of k 2^(124 - 4 i) by h
+unfoldable pub entry : ℕ → ℕ → ℕ → ℕ
+entry h i k = stepwise (k * 2 ^ (124 - 4 * i)) h
 
--- the entries from m on are right
-abbrev pub From : ℕ → ℕ → List ℕ → Type 0
-From h m t = (n : ℕ) → m ≤ n → n < 512 → slice_index t n ≡ entry h n
+-- a row i of the table
+abbrev pub Row : ℕ → ℕ → List ℕ → Type 0
+Row h i row = (k : ℕ) → k < 16 → slice_index row k ≡ entry h i k
+
+-- the table has the products of every nibble at every place
+abbrev pub Products : ℕ → List (List ℕ) → Type 0
+Products h t = (i : ℕ) → i < 32 → Row h i (slice_index_or t i [])
 
 -- modular m a b is the remainder of a b modulo m: of degree below 128, and a multiple of m away from a b; there is no other
 pub record Remainder : Type 0 where

@@ -1,6 +1,8 @@
 -- XCB version 2 on whole blocks, with a tweak of one block and the XOR counter. A text is ML, all but its last block, and then MR.
-use Rattle.std.specs.Prelude.{ℕ, ◌+◌, ◌-◌, ◌*◌, ◌/◌, ◌^◌, List, [], ◌∷◌, ◌++◌, length, take, drop, bit_xor}
-use Rattle.mode.specs.Modes.{Sealing}
+use Rattle.std.specs.Prelude.{◌≡◌, ℕ, ◌+◌, ◌-◌, ◌*◌, ◌/◌, ◌^◌, true, false, Ok, Err, Result, List, [], ◌∷◌, ◌++◌, length, take, drop, bit_xor}
+use Rattle.refusal.specs.declared.Refusal.{Refusal}
+use Rattle.refusal.specs.Refusals.{number_of}
+use Rattle.mode.specs.Modes.{Sealing, permitted}
 use Rattle.block.specs.Blocks.{blocks_of, walk, to_bytes, to_block}
 use Rattle.field.specs.Field.{hash}
 use Rattle.cipher.specs.declared.Cipher.{Ghosts as CipherMeaning}
@@ -59,6 +61,11 @@ sealing_frames t n = record { before = outer t; after = inner t n }
 
 abbrev pub opening_frames : ℕ → ℕ → Frames
 opening_frames t n = record { before = inner t n; after = outer t }
+
+-- the left part's blocks of a text of m bytes, or the refusal of its length
+abbrev pub LeftBlocks : ℕ → Result ℕ Refusal → Type 0
+LeftBlocks m (Ok n) = (permitted m ≡ true) × (n ≡ m / 16 - 1)
+LeftBlocks m (Err e) = (permitted m ≡ false) × (number_of e ≡ 1)
 
 -- a whole text, of the left part's blocks and the last one
 abbrev pub turned : (ℕ → ℕ) → (ℕ → ℕ) → (ℕ → ℕ) → ℕ → (ℕ → ℕ → Frames) → ℕ → List ℕ → List ℕ

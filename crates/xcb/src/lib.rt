@@ -3,18 +3,18 @@
 // the keys and the frames of the two hashes exchanged, so that one text serves both. The counter is XORed, and starts from 0.
 #![tactic(auto)]
 
-ghost use Rattle.std.specs.Prelude.{◌≡◌, ℕ, ◌+◌, ◌*◌, ◌≤◌, length, take};
+ghost use Rattle.std.specs.Prelude.{◌≡◌, ◌-◌, ◌/◌, ◌%◌, true, length};
 ghost use Rattle.cipher.specs.Made.{opening, sealing};
-ghost use Rattle.block.specs.Blocks.{blocks_of, loaded, stored};
-ghost use Rattle.mode.specs.Modes.{Alike};
+ghost use Rattle.block.specs.Blocks.{blocks_of};
+ghost use Rattle.mode.specs.Modes.{permitted};
 ghost use Rattle.xcb.specs.Facts.{Undone};
-ghost use Rattle.xcb.specs.Xcb.{digest, in_frame, inner, length_block, masked, meaning, opening_frames, outer, passed, sealing_frames, streamed, xcb};
+ghost use Rattle.xcb.specs.Xcb.{LeftBlocks, digest, inner, length_block, meaning, outer, passed, sealing_frames, streamed, xcb};
 ghost use Rattle.xcb.specs.Laws.{undone};
 
-use block::{BLOCK, Block, load, store};
+use block::{BLOCK, Block, from_bytes, load, store};
 use cipher::Cipher;
 use field::HashKey;
-use mode::{Mode, permits};
+use mode::{Keyed, Mode, permits, walk_blocks};
 use refusal::Refusal;
 
 // The blocks that stand before and behind the left part where it is hashed.
@@ -25,6 +25,49 @@ struct Frame {
     last: u128,
 }
 
+// The bits of the tweak frame and of the left part of n blocks.
+fn lengths(n: usize) -> Block
+    ensures { result ≡ length_block n }
+{
+    256 * 0x1_0000_0000_0000_0000 + 8 * (16 * n as u128)
+}
+
+impl Frame {
+    // Around the left part as it stands in the plain text.
+    fn outer(tweak: Block) -> Frame
+        ensures { result ≡ outer tweak }
+    {
+        Frame {
+            first: 0,
+            second: tweak,
+            last: 0,
+        }
+    }
+
+    // Around the left part of n blocks as it stands in the sealed text.
+    fn inner(tweak: Block, n: usize) -> Frame
+        ensures { result ≡ inner tweak n }
+    {
+        Frame {
+            first: tweak,
+            second: 0,
+            last: lengths(n),
+        }
+    }
+
+    // The hash of a part's blocks in this frame.
+    fn hash(&self, key: &HashKey, part: &[u8]) -> Block
+        ensures { result ≡ digest key.now.h self.now (blocks_of (length part.now / 16) part.now) }
+    {
+        let mut sum = key.absorb(key.absorb(0, self.first), self.second);
+        let (blocks, _) = part.as_chunks::<BLOCK>();
+        for block in blocks {
+            sum = key.absorb(sum, from_bytes(*block));
+        }
+        key.absorb(sum, self.last)
+    }
+}
+
 // The frames of the two hashes: of the left part as it was, and of what the stream made of it.
 #[derive(Clone, Copy)]
 struct Frames {
@@ -32,132 +75,34 @@ struct Frames {
     after: Frame,
 }
 
-// The blocks of the part in their frame, and zeros behind them.
-fn read_framed(frame: Frame, part: &[u8], n: usize) -> [u128; 258]
-    requires { (length part.now ≡ 16 * n) × (n ≤ 255) }
-    ensures { take (n + 3) result ≡ in_frame frame (blocks_of n part.now) }
-{
-    let mut framed = [0u128; 258];
-    framed[0] = frame.first;
-    framed[1] = frame.second;
-    for i in 0..n {
-        let at = BLOCK * i;
-        framed[i + 2] = load(&part[at..at + BLOCK]);
+impl Frames {
+    fn to_seal(tweak: Block, n: usize) -> Frames
+        ensures { result ≡ sealing_frames tweak n }
+    {
+        Frames {
+            before: Frame::outer(tweak),
+            after: Frame::inner(tweak, n),
+        }
     }
-    framed[n + 2] = frame.last;
-    framed
-}
 
-fn framed_hash(key: &HashKey, frame: Frame, part: &[u8], n: usize) -> Block
-    requires { (length part.now ≡ 16 * n) × (n ≤ 255) }
-    ensures { result ≡ digest key.now.h frame (blocks_of n part.now) }
-{
-    let framed = read_framed(frame, part, n);
-    key.hash(&framed[0..n + 3])
-}
-
-// One block under the stream.
-fn stream_block<C: Cipher>(cipher: &C, mask: Block, part: &mut [u8])
-    ensures { part.new ≡ stored part.old (masked (sealing C.Cipher cipher.now) mask (loaded part.old)) }
-{
-    let block = load(part);
-    store(part, block ^ cipher.seal(mask));
-}
-
-fn stream<C: Cipher>(cipher: &C, z: Block, part: &mut [u8], n: usize)
-    requires { length part.old ≡ 16 * n }
-    ensures { part.new ≡ streamed (sealing C.Cipher cipher.now) z n part.old }
-{
-    for i in 0..n {
-        let at = BLOCK * i;
-        stream_block(cipher, z ^ i as u128, &mut part[at..at + BLOCK]);
+    fn exchanged(self) -> Frames
+        ensures { result ≡ record { before = self.after; after = self.before } }
+    {
+        Frames {
+            before: self.after,
+            after: self.before,
+        }
     }
 }
 
-// The last block of a text, sealed.
-fn seal_last<C: Cipher>(front: &C, part: &[u8]) -> Block
-    ensures { result ≡ sealing C.Cipher front.now (loaded part.now) }
+// The blocks of a text before its last one, or a refusal of its length.
+fn left_blocks(text: &[u8]) -> Result<usize, Refusal>
+    ensures { LeftBlocks (length text.now) result }
 {
-    front.seal(load(part))
-}
-
-// The last block of the result: what opening makes of w.
-fn open_last<C: Cipher>(back: &C, w: Block, part: &mut [u8])
-    ensures { part.new ≡ stored part.old (opening C.Cipher back.now w) }
-{
-    store(part, back.open(w));
-}
-
-// The whole way over a text of n blocks and the last one: `front` seals the last block, `back` opens it again at the end.
-fn pass<C: Cipher>(
-    front: &C,
-    back: &C,
-    counter: &C,
-    key: &HashKey,
-    frames: Frames,
-    text: &mut [u8],
-    n: usize,
-)
-    requires { (length text.old ≡ 16 * n + 16) × (n ≤ 255) }
-    ensures { text.new ≡ passed (sealing C.Cipher front.now) (opening C.Cipher back.now) (sealing C.Cipher counter.now) key.now.h frames n text.old }
-{
-    let m = BLOCK * n;
-    let z = seal_last(front, &text[m..m + BLOCK]) ^ framed_hash(key, frames.before, &text[0..m], n);
-    stream(counter, z, &mut text[0..m], n);
-    let w = z ^ framed_hash(key, frames.after, &text[0..m], n);
-    open_last(back, w, &mut text[m..m + BLOCK]);
-}
-
-// Around the left part as it stands in the plain text.
-fn outer_frame(tweak: Block) -> Frame
-    ensures { result ≡ outer tweak }
-{
-    Frame {
-        first: 0,
-        second: tweak,
-        last: 0,
+    if !permits(text.len()) {
+        return Err(Refusal::Length);
     }
-}
-
-// The bits of the tweak frame and of the left part of n blocks.
-fn lengths(n: usize) -> Block
-    requires { n ≤ 255 }
-    ensures { result ≡ length_block n }
-{
-    let bits = 8 * (BLOCK * n);
-    256 * 0x1_0000_0000_0000_0000 + bits as u128
-}
-
-// Around the left part of n blocks as it stands in the sealed text.
-fn inner_frame(tweak: Block, n: usize) -> Frame
-    requires { n ≤ 255 }
-    ensures { result ≡ inner tweak n }
-{
-    Frame {
-        first: tweak,
-        second: 0,
-        last: lengths(n),
-    }
-}
-
-fn frames_to_seal(tweak: Block, n: usize) -> Frames
-    requires { n ≤ 255 }
-    ensures { result ≡ sealing_frames tweak n }
-{
-    Frames {
-        before: outer_frame(tweak),
-        after: inner_frame(tweak, n),
-    }
-}
-
-fn frames_to_open(tweak: Block, n: usize) -> Frames
-    requires { n ≤ 255 }
-    ensures { result ≡ opening_frames tweak n }
-{
-    Frames {
-        before: inner_frame(tweak, n),
-        after: outer_frame(tweak),
-    }
+    Ok(text.len() / BLOCK - 1)
 }
 
 // Kh with its table, and ciphers under Ke, Kd and Kc.
@@ -184,6 +129,34 @@ impl<C: Cipher + Drop> Xcb<C> {
     }
 }
 
+impl<C: Cipher> Xcb<C> {
+    // The part under the stream of z.
+    fn stream(&self, z: Block, part: &mut [u8])
+        requires { length part.old % 16 ≡ 0 }
+        ensures { part.new ≡ streamed (sealing C.Cipher self.now.counter) z (length part.old / 16) part.old }
+    {
+        walk_blocks(
+            part,
+            0,
+            |j, block| block ^ self.counter.seal(z ^ j),
+            |j| j.wrapping_add(1),
+        );
+    }
+
+    // The whole way over a text: `front` seals the last block, `back` opens it again at the end.
+    fn pass(&self, front: &C, back: &C, frames: Frames, text: &mut [u8])
+        requires { permitted (length text.old) ≡ true }
+        ensures { text.new ≡ passed (sealing C.Cipher front.now) (opening C.Cipher back.now) (sealing C.Cipher self.now.counter) self.now.hash_key.h frames (length text.old / 16 - 1) text.old }
+    {
+        let at = text.len() - BLOCK;
+        let (left, last) = text.split_at_mut(at);
+        let z = front.seal(load(last)) ^ frames.before.hash(&self.hash_key, left);
+        self.stream(z, left);
+        let w = z ^ frames.after.hash(&self.hash_key, left);
+        store(last, back.open(w));
+    }
+}
+
 impl<C: Cipher> Mode for Xcb<C> {
     ghost sealing = { λ m. meaning C.Cipher m };
 
@@ -196,52 +169,30 @@ impl<C: Cipher> Mode for Xcb<C> {
         undone (k.sealed e) (k.opened e) (k.sealed d) (k.opened d) (k.sealed c) (k.opened c) m.hash_key.h (l e) (l d) (l c) };
 
     fn seal(&self, tweak: Block, text: &mut [u8]) -> Result<(), Refusal> {
-        let len = text.len();
-        if !permits(len) {
-            return Err(Refusal::Length);
-        }
-        let n = len / BLOCK - 1;
-        pass(
-            &self.front,
-            &self.back,
-            &self.counter,
-            &self.hash_key,
-            frames_to_seal(tweak, n),
-            text,
-            n,
-        );
+        let frames = Frames::to_seal(tweak, left_blocks(text)?);
+        self.pass(&self.front, &self.back, frames, text);
         Ok(())
     }
 
     fn open(&self, tweak: Block, text: &mut [u8]) -> Result<(), Refusal> {
-        let len = text.len();
-        if !permits(len) {
-            return Err(Refusal::Length);
-        }
-        let n = len / BLOCK - 1;
-        pass(
-            &self.back,
-            &self.front,
-            &self.counter,
-            &self.hash_key,
-            frames_to_open(tweak, n),
-            text,
-            n,
-        );
+        let frames = Frames::to_seal(tweak, left_blocks(text)?).exchanged();
+        self.pass(&self.back, &self.front, frames, text);
         Ok(())
     }
 }
 
+impl<C: Cipher + Drop> Keyed for Xcb<C> {
+    type Keys = C::Key;
+
+    ghost made = { λ key. xcb C.Cipher key };
+
+    fn from_keys(key: C::Key) -> Self {
+        Xcb::new(key)
+    }
+}
+
 // XCB over any cipher opens what it sealed and seals what it opened.
+#[tactic(auto, using(crate::specs::Laws::undone))]
 pub fn xcb_stands()
     ensures { Undone }
 {}
-
-// The modes of two wands, each from its own key; where the keys are equal, the modes seal alike at every size.
-pub fn new_pair<C: Cipher + Drop>(key: C::Key, key2: C::Key) -> (Xcb<C>, Xcb<C>)
-    ensures one { meaning C.Cipher result.0 ≡ xcb C.Cipher key }
-    ensures other { meaning C.Cipher result.1 ≡ xcb C.Cipher key2 }
-    ensures alike { key ≡ key2 → (size : ℕ) → Alike size (meaning C.Cipher result.0) (meaning C.Cipher result.1) }
-{
-    (Xcb::new(key), Xcb::new(key2))
-}

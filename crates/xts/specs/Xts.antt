@@ -3,10 +3,7 @@ use Rattle.std.specs.Prelude.{ℕ, ◌*◌, ◌/◌, ◌%◌, ◌^◌, cond, Lis
 use Rattle.mode.specs.Modes.{Sealing}
 use Rattle.block.specs.Blocks.{walk, swapped}
 use Rattle.cipher.specs.declared.Cipher.{Ghosts as CipherMeaning}
-use Rattle.cipher.specs.Made.{sealing, opening}
 use Rattle.xts.specs.declared.Xts.{Xts}
-use Rattle.xts.specs.declared.Way.{Way}
-use Rattle.xts.specs.declared.Way.TheVariants.{Seal, Open}
 
 -- twice n in 128 bits; where a top bit falls out, 0x87 is XORed in
 abbrev pub twice : ℕ → ℕ
@@ -15,11 +12,6 @@ twice n = cond (nat_le (2 ^ 127) n) (bit_xor (n % 2 ^ 127 * 2) 0x87) (n % 2 ^ 12
 -- T(j + 1) of T(j): the block, read as a number with the lowest byte first, twice
 unfoldable pub doubled : ℕ → ℕ
 doubled t = swapped (twice (swapped t))
-
--- a made cipher, one way or the other
-abbrev pub turned : {C Key : Type 0} → Way → CipherMeaning C Key → C → ℕ → ℕ
-turned Seal m c = sealing m c
-turned Open m c = opening m c
 
 -- block j under its mask T(j): XORed, sealed or opened, XORed again
 abbrev pub masked : (ℕ → ℕ) → ℕ → ℕ → ℕ

@@ -2,18 +2,18 @@
 // `swap`, since the standard reads it with the lowest byte first; the tweak is sealed under the second key, for opening too.
 #![tactic(auto)]
 
-ghost use Rattle.std.specs.Prelude.{◌≡◌, ℕ, ◌*◌, length, if◌then◌else◌};
+ghost use Rattle.std.specs.Prelude.{◌≡◌, ℕ, length, if◌then◌else◌};
 ghost use Rattle.cipher.specs.Made.{sealing};
-ghost use Rattle.block.specs.Blocks.{loaded, stored, walk};
 ghost use Rattle.mode.specs.Modes.{Alike, mode_answer, permitted};
+ghost use Rattle.mode.specs.Walks.{Answers};
 ghost use Rattle.refusal.specs.Refusals.{answer};
 ghost use Rattle.xts.specs.Facts.{Undone};
-ghost use Rattle.xts.specs.Xts.{blockwise, doubled, masked, meaning, turned, twice, xts};
+ghost use Rattle.xts.specs.Xts.{blockwise, doubled, meaning, twice, xts};
 ghost use Rattle.xts.specs.Laws.{undone};
 
-use block::{BLOCK, Block, load, store, swap};
+use block::{Block, swap};
 use cipher::Cipher;
-use mode::{Mode, permits};
+use mode::{Keyed, Mode, permits, walk_blocks};
 use refusal::Refusal;
 
 const TOP: u128 = 0x8000_0000_0000_0000_0000_0000_0000_0000;
@@ -27,48 +27,11 @@ fn shift(n: u128) -> u128
 }
 
 // The mask of the next block.
+#[tactic(auto, unfolding(crate::specs::Xts::doubled))]
 pub fn double(mask: Block) -> Block
     ensures { result ≡ doubled mask }
 {
     swap(shift(swap(mask)))
-}
-
-// Which of a cipher's two functions a block goes through.
-#[derive(Clone, Copy)]
-enum Way {
-    Seal,
-    Open,
-}
-
-fn turn<C: Cipher>(cipher: &C, way: Way, block: Block) -> Block
-    ensures { result ≡ turned way C.Cipher cipher.now block }
-{
-    match way {
-        Way::Seal => cipher.seal(block),
-        Way::Open => cipher.open(block),
-    }
-}
-
-// One block of a text, in place.
-fn turn_block<C: Cipher>(cipher: &C, way: Way, mask: Block, part: &mut [u8])
-    ensures { part.new ≡ stored part.old (masked (turned way C.Cipher cipher.now) mask (loaded part.old)) }
-{
-    let block = load(part);
-    let turned = turn(cipher, way, block ^ mask);
-    store(part, turned ^ mask);
-}
-
-// The n blocks of a text, in place, from the first mask on.
-fn turn_blocks<C: Cipher>(cipher: &C, way: Way, start: Block, text: &mut [u8], n: usize)
-    requires { length text.old ≡ 16 * n }
-    ensures { text.new ≡ walk (masked (turned way C.Cipher cipher.now)) doubled n start text.old }
-{
-    let mut mask = start;
-    for i in 0..n {
-        let at = BLOCK * i;
-        turn_block(cipher, way, mask, &mut text[at..at + BLOCK]);
-        mask = double(mask);
-    }
 }
 
 #[derive(Drop)]
@@ -87,17 +50,22 @@ impl<C: Cipher> Xts<C> {
         }
     }
 
-    // The whole text, or a refusal of its length.
-    fn turn_text(&self, way: Way, tweak: Block, text: &mut [u8]) -> Result<(), Refusal>
+    // The whole text, each block through `turn`, or a refusal of its length.
+    fn turn_text<F: Fn(Block) -> Block>(
+        &self,
+        turn: F,
+        tweak: Block,
+        text: &mut [u8],
+    ) -> Result<(), Refusal>
+        requires { F.IsAlwaysCallable turn }
         ensures reply { answer result ≡ mode_answer (length text.old) }
-        ensures bytes { text.new ≡ (if permitted (length text.old) then blockwise (turned way C.Cipher self.now.first) (sealing C.Cipher self.now.second tweak) text.old else text.old) }
+        ensures bytes { (e : ℕ → ℕ) → Answers (F.post turn) e → text.new ≡ (if permitted (length text.old) then blockwise e (sealing C.Cipher self.now.second tweak) text.old else text.old) }
     {
-        let len = text.len();
-        if !permits(len) {
+        if !permits(text.len()) {
             return Err(Refusal::Length);
         }
         let start = self.second.seal(tweak);
-        turn_blocks(&self.first, way, start, text, len / BLOCK);
+        walk_blocks(text, start, |mask, block| turn(block ^ mask) ^ mask, double);
         Ok(())
     }
 }
@@ -112,20 +80,33 @@ impl<C: Cipher> Mode for Xts<C> {
         undone (k.sealed first) (k.opened first) (k.sealed second) (k.opened second) (C.Cipher.undoing first) (C.Cipher.undoing second) };
 
     fn seal(&self, tweak: Block, text: &mut [u8]) -> Result<(), Refusal> {
-        self.turn_text(Way::Seal, tweak, text)
+        self.turn_text(|block| self.first.seal(block), tweak, text)
     }
 
     fn open(&self, tweak: Block, text: &mut [u8]) -> Result<(), Refusal> {
-        self.turn_text(Way::Open, tweak, text)
+        self.turn_text(|block| self.first.open(block), tweak, text)
+    }
+}
+
+impl<C: Cipher> Keyed for Xts<C> {
+    // of the blocks, and of the tweak
+    type Keys = (C::Key, C::Key);
+
+    ghost made = { λ keys. xts C.Cipher keys.0 keys.1 };
+
+    fn from_keys(keys: (C::Key, C::Key)) -> Self {
+        let (first, second) = keys;
+        Xts::new(first, second)
     }
 }
 
 // XTS over any cipher opens what it sealed and seals what it opened.
+#[tactic(auto, using(crate::specs::Laws::undone))]
 pub fn xts_stands()
     ensures { Undone }
 {}
 
-// The modes of two wands, each from its own keys; where the keys are equal, the modes seal alike at every size.
+// `mode::new_pair` by the keys one by one: the modes of two wands, each from its own keys; where the keys are equal, the modes seal alike at every size.
 pub fn new_pair<C: Cipher>(
     first: C::Key,
     second: C::Key,
@@ -136,5 +117,5 @@ pub fn new_pair<C: Cipher>(
     ensures other { meaning C.Cipher result.1 ≡ xts C.Cipher first2 second2 }
     ensures alike { first ≡ first2 → second ≡ second2 → (size : ℕ) → Alike size (meaning C.Cipher result.0) (meaning C.Cipher result.1) }
 {
-    (Xts::new(first, second), Xts::new(first2, second2))
+    mode::new_pair((first, second), (first2, second2))
 }
