@@ -1,14 +1,43 @@
 -- Runs of digits, and the number that they write.
-use Rattle.std.proofs.Common.{◌≡◌, ℕ, zero, suc, ◌+◌, ◌-◌, ◌*◌, ◌<◌, ◌≤◌, List, [], ◌∷◌, ◌++◌, length, get_or, take, drop, sym, refl, ap, ◌∙◌, subst, le_of_suc-le-suc, not-suc-le-zero, arith}
-use Rattle.std.proofs.lemmas.List.{take_more, drop_more, drop_all, take-append-drop, take_rest}
-use Rattle.decimal.specs.Decimal.{Begins, Digit, Digits, NoDigit, decimal}
+use Rattle.std.proofs.Common.{◌≡◌, ℕ, Bool, true, false, cond, one-add, zero, suc, ◌+◌, ◌-◌, ◌*◌, ◌<◌, ◌≤◌, List, [], ◌∷◌, ◌++◌, length, get_or, take, drop, sym, refl, ap, ◌∙◌, subst, le_of_suc-le-suc, not-suc-le-zero, arith}
+use Rattle.std.proofs.lemmas.List.{take_more, take-append-drop}
+use Rattle.std.proofs.lemmas.Bool.Decides.{nat_tests}
+use Rattle.std.proofs.lemmas.List.Sums.{prefix_len-le-length}
+use Rattle.std.proofs.lemmas.List.Folds.{length-prefix_len}
+use Rattle.std.specs.Char.{is_ascii_digit}
+use Rattle.std.specs.List.{prefix_len}
+use Rattle.decimal.specs.Decimal.{Begins, Digit, Digits, NoDigit, Numeral, decimal}
 
-pub digits_push : (xs : List ℕ) (c : ℕ) → Digits xs → Digit c → Digits (xs ++ c ∷ [])
-digits_push [] c d h = (h, tt)
-digits_push (x ∷ xs) c d h = (d.0, digits_push xs c d.1 h)
+front_digits : (s : List ℕ) → Digits (take (prefix_len is_ascii_digit s) s)
+front_digits [] = tt
+front_digits (c ∷ s) = go (is_ascii_digit c) refl (front_digits s)
+  where
+    go : (b : Bool) → is_ascii_digit c ≡ b → Digits (take (prefix_len is_ascii_digit s) s) → Digits (take (cond b (1 + prefix_len is_ascii_digit s) 0) (c ∷ s))
+    go false e h = tt
+    go true e h = rw one-add (grind (arith, nat_tests), h)
 
-pub digits_more : (s : List ℕ) (i : ℕ) → i < length s → Digits (take i s) → Digit (get_or s i 0) → Digits (take (i + 1) s)
-digits_more s i l d h = subst Digits (sym (take_more s i 0 l)) (digits_push (take i s) (get_or s i 0) d h)
+no_digit_behind : (s : List ℕ) → NoDigit (drop (prefix_len is_ascii_digit s) s)
+no_digit_behind [] = tt
+no_digit_behind (c ∷ s) = go (is_ascii_digit c) refl (no_digit_behind s)
+  where
+    go : (b : Bool) → is_ascii_digit c ≡ b → NoDigit (drop (prefix_len is_ascii_digit s) s) → NoDigit (drop (cond b (1 + prefix_len is_ascii_digit s) 0) (c ∷ s))
+    go false e h = λ d. grind (arith, nat_tests)
+    go true e h = rw one-add h
+
+-- the run of digits at the front
+pub record Run (s : List ℕ) (n : ℕ) : Type 0 where
+  pub within : n ≤ length s
+  pub long : length (take n s) ≡ n
+  pub front : Digits (take n s)
+  pub rest : NoDigit (drop n s)
+
+pub run : {s : List ℕ} {n : ℕ} → n ≡ prefix_len is_ascii_digit s → Run s n
+run {s} e = subst (Run s) (sym e) (record {
+  within = prefix_len-le-length is_ascii_digit s;
+  long = length-prefix_len is_ascii_digit s;
+  front = front_digits s;
+  rest = no_digit_behind s;
+})
 
 pub decimal_push : (n : ℕ) (xs : List ℕ) (c : ℕ) → decimal n (xs ++ c ∷ []) ≡ decimal n xs * 10 + (c - 48)
 decimal_push n [] c = refl
@@ -21,12 +50,6 @@ pub digit_at : (s : List ℕ) (i : ℕ) → Digits s → i < length s → Digit 
 digit_at [] i d h = absurd (not-suc-le-zero h)
 digit_at (x ∷ xs) zero d h = d.0
 digit_at (x ∷ xs) (suc i) d h = digit_at xs i d.1 (le_of_suc-le-suc h)
-
-pub no_digit_at : (s : List ℕ) (i : ℕ) → i < length s → (Digit (get_or s i 0) → ⊥) → NoDigit (drop i s)
-no_digit_at s i h f = subst NoDigit (sym (drop_more s i 0 h)) f
-
-pub no_digit_end : (s : List ℕ) (i : ℕ) → length s ≤ i → NoDigit (drop i s)
-no_digit_end s i h = subst NoDigit (sym (drop_all i s h)) tt
 
 -- a run of digits before what is no digit is one and the same run
 pub same_run : (ds es p q : List ℕ) → Digits ds → Digits es → NoDigit p → NoDigit q → ds ++ p ≡ es ++ q → (ds ≡ es) × (p ≡ q)
@@ -42,13 +65,20 @@ same_run (x ∷ ds) (y ∷ es) p q d e n m h =
     let a : ds ≡ es = r.0 in
     ((cc), r.1)
 
-pub begins_run : (most limit : ℕ) (text : List ℕ) (v : ℕ) (rest : List ℕ) (n : ℕ) → Digits (take n text) → NoDigit (drop n text) → (b : Begins most limit text v rest)
-    → (b.ds ≡ take n text) × (rest ≡ drop n text)
-begins_run most limit text v rest n d f b =
-    same_run b.ds (take n text) rest (drop n text) b.numeral.digits d b.after f (sym b.whole ∙ sym (take-append-drop n text))
+-- a numeral at the front is the run of digits there
+pub begins_run : {most limit v n : ℕ} {text rest : List ℕ} → Run text n → Begins most limit text v rest → Numeral most limit (take n text) v
+begins_run {most} {limit} {v} {n} {text} {rest} r b =
+    subst (λ (ds : List ℕ). Numeral most limit ds v) (same_run b.ds (take n text) rest (drop n text) b.numeral.digits r.front b.after r.rest (sym b.whole ∙ sym (take-append-drop n text))).0 b.numeral
 
-pub head_tail : (s : List ℕ) → 0 < length s → s ≡ get_or s 0 0 ∷ take (length s - 1) (drop 1 s)
-head_tail s h = let e : s ≡ get_or s 0 0 ∷ drop 1 s = drop_more s 0 0 h in e ∙ ap (λ (t : List ℕ). get_or s 0 0 ∷ t) (sym (take_rest s 1))
+pub run_begins : {most limit v n : ℕ} {text : List ℕ} → Run text n → 1 ≤ n → n ≤ most → v ≡ decimal 0 (take n text) → v ≤ limit → Begins most limit text v (drop n text)
+run_begins {most} {limit} {v} {n} {text} r some few e small =
+    let long = r.long in
+    record {
+      ds = take n text;
+      whole = sym (take-append-drop n text);
+      numeral = record { some = omega arith; few = omega arith; digits = r.front; value = sym e; small = small };
+      after = r.rest;
+    }
 
 pub decimal_append : (n : ℕ) (xs ys : List ℕ) → decimal n (xs ++ ys) ≡ decimal (decimal n xs) ys
 decimal_append n [] ys = refl

@@ -4,35 +4,26 @@
 //! there are no more digits than the caller allows.
 #![tactic(auto)]
 
-ghost use Rattle.std.specs.Prelude.{◌≡◌, ℕ, ◌+◌, ◌*◌, ◌^◌, ◌<◌, ◌≤◌, true, false, List, ◌∷◌, length, take, drop, MatchOption, ◌≢◌};
+ghost use Rattle.std.specs.Prelude.{◌≡◌, ℕ, ◌+◌, ◌*◌, ◌<◌, ◌≤◌, List, ◌∷◌, MatchOption, ◌≢◌};
+ghost use Rattle.std.specs.Char.{is_ascii_digit};
+ghost use Rattle.std.specs.List.{prefix_len};
 ghost use Rattle.std.specs.Option.{SomeIff};
-ghost use Rattle.decimal.specs.Decimal.{Digit, Digits, NoDigit, Begins, decimal};
-
-fn is_digit(b: u8) -> bool
-    ensures yes { result ≡ true → Digit b }
-    ensures no { result ≡ false → Digit b → ⊥ }
-{
-    b >= b'0' && b <= b'9'
-}
+ghost use Rattle.decimal.specs.Decimal.{Digits, Begins, decimal};
 
 // How many digits the text begins with.
 fn count_digits(s: &[u8]) -> usize
-    ensures within { result ≤ length s.now }
-    ensures front { Digits (take result s.now) }
-    ensures rest { NoDigit (drop result s.now) }
+    ensures { result ≡ prefix_len is_ascii_digit s.now }
 {
-    let mut n: usize = 0;
-    while n < s.len() && is_digit(s[n]) {
-        n += 1;
-    }
-    n
+    s.iter().take_while(|b| b.is_ascii_digit()).count()
 }
 
-// The number with one more digit at its end, unless that is too large for the type.
-fn with_digit(v: u64, digit: u8) -> Option<u64>
-    ensures { SomeIff result (v * 10 + digit < 2 ^ 64) (v * 10 + digit) }
+// The number with one more digit at its end, unless that is above the limit.
+fn with_digit(v: u64, digit: u8, limit: u64) -> Option<u64>
+    ensures { SomeIff result (v * 10 + digit ≤ limit) (v * 10 + digit) }
 {
-    v.checked_mul(10)?.checked_add(u64::from(digit))
+    v.checked_mul(10)?
+        .checked_add(u64::from(digit))
+        .filter(|v| *v <= limit)
 }
 
 // The value of some digits, unless it is above the limit.
@@ -40,16 +31,10 @@ fn value(s: &[u8], limit: u64) -> Option<u64>
     requires { Digits s.now }
     ensures { MatchOption result (limit < decimal 0 s.now) (λ v. (v ≡ decimal 0 s.now) × (v ≤ limit)) }
 {
-    let mut v: u64 = 0;
+    let mut v = 0;
     for b in s {
         // a value only grows with more digits
-        let Some(next) = with_digit(v, *b - b'0') else {
-            return None;
-        };
-        if next > limit {
-            return None;
-        }
-        v = next;
+        v = with_digit(v, *b - b'0', limit)?;
     }
     Some(v)
 }
@@ -63,18 +48,13 @@ pub fn take_number(s: &[u8], most: usize, limit: u64) -> Option<(u64, &[u8])>
     if n == 0 || n > most {
         return None;
     }
-    let Some(v) = value(&s[0..n], limit) else {
-        return None;
-    };
-    Some((v, &s[n..]))
+    let (digits, rest) = s.split_at(n);
+    Some((value(digits, limit)?, rest))
 }
 
 /// What follows one space.
 pub fn take_space(s: &[u8]) -> Option<&[u8]>
     ensures cases { MatchOption result ((rest : List ℕ) → s.now ≢ 32 ∷ rest) (λ x. s.now ≡ 32 ∷ x.now) }
 {
-    let [b' ', rest @ ..] = s else {
-        return None;
-    };
-    Some(rest)
+    s.strip_prefix(b" ")
 }

@@ -1,5 +1,7 @@
 -- A field stands at the front of a text in one way at most, and so a line is a door's in one way at most.
-use Rattle.std.proofs.Common.{◌≡◌, ℕ, List, ◌∷◌, sym, ◌∙◌, subst, arith}
+use Rattle.std.proofs.Common.{◌≡◌, ℕ, Option, None, Result, Ok, Err, MatchResult, IsErrAnd, List, ◌∷◌, sym, ap, ◌∙◌, subst, arith}
+use Rattle.std.proofs.lemmas.Result.{err_from_is_err_and}
+use Rattle.std.specs.Option.{ok_or}
 use Rattle.decimal.specs.Decimal.{Begins, Digit}
 use Rattle.decimal.proofs.Runs.{same_begins}
 use Rattle.doors.specs.Names.{Named}
@@ -49,3 +51,19 @@ one_door line d e v w =
     let t = time_at line d v _ _ w.number_is _ _ w.badge_is in
     let n = name_at line d v _ _ w.number_is _ _ w.badge_is _ _ w.time_is in
     same_door d e (same_field v.number_is w.number_is).0 (same_field b w.badge_is).0 (same_field t w.time_is).0 (n.filled ∙ sym w.name_is.filled)
+
+abbrev fault_of : {A : Type 0} → Result A Fault → Fault
+fault_of (Ok x) = Number
+fault_of (Err e) = e
+
+-- a field that is missing ends with its fault
+pub failed : {A : Type 0} {o : Option A} {r : Result Door Fault} {e f : Fault} → IsErrAnd r (λ x. x ≡ e) → Err e ≡ ok_or o f → o ≡ None → r ≡ Err f
+failed {r = r} h v n = let q = err_from_is_err_and r h in let w = rw n at v in q.1 ∙ ap Err (q.2 ∙ ap fault_of w)
+
+-- what is told where a field is wrong
+pub record Refused (line : List ℕ) (r : Result Door Fault) : Type 0 where
+  pub cases : MatchResult r (λ d. Written line d) (λ f. Wrong line f × NoDoor line)
+  pub only : (d : Door) → Written line d → r ≡ Ok d
+
+pub refused : {line : List ℕ} {r : Result Door Fault} (f : Fault) → r ≡ Err f → Wrong line f → Refused line r
+refused {line} f e w = let n = wrong_no_door line f w in record { cases = rw e (w, n); only = λ d v. absurd (n d v) }

@@ -1,9 +1,9 @@
 -- Records are laid one after the other.
 use Rattle.std.proofs.Common.{◌≡◌, ℕ, ◌+◌, ◌-◌, ◌*◌, ◌<◌, List, [], ◌∷◌, ◌++◌, length, get_or, take, drop, replicate, sym, refl, ap, ◌∙◌, arith, length-append}
 use borrow.Rule.Slice.PartMut.{put_mid}
-use Rattle.std.proofs.lemmas.List.{append_assoc, append-nil, drop_at, drop-replicate, length-take-le, take_all, take_at, take_more}
+use Rattle.std.proofs.lemmas.List.{append_assoc, append-nil, drop_at, drop-replicate, length-take-le, take_at, take_more}
 use Rattle.doors.specs.Records.{laid, record_bytes}
-use Rattle.doors.specs.Rounds.{image_of, records}
+use Rattle.doors.specs.Rounds.{records}
 use Rattle.doors.specs.declared.types.Door.{Door}
 
 pub length_record : (d : Door) → length (record_bytes d) ≡ 24
@@ -34,7 +34,3 @@ laid_more ds i d image bytes h k m e b =
     let put : put_mid (24 * i) 24 image bytes ≡ p ++ (record_bytes d ++ replicate (1024 - 24 * (i + 1)) 0) = λ q. first q ++ (b q ++ last q) in
     let group : (p ++ record_bytes d) ++ replicate (1024 - 24 * (i + 1)) 0 ≡ p ++ (record_bytes d ++ replicate (1024 - 24 * (i + 1)) 0) = append_assoc p (record_bytes d) (replicate (1024 - 24 * (i + 1)) 0) in
     put ∙ sym group ∙ ap (λ (t : List ℕ). t ++ replicate (1024 - 24 * (i + 1)) 0) (sym more)
-
-pub laid_end : (ds : List Door) (i : ℕ) (image : List ℕ) → i ≡ length ds → image ≡ records (take i ds) ++ replicate (1024 - 24 * i) 0 → image ≡ image_of ds
-laid_end ds i image h e =
-    e ∙ ap (λ (x : List Door). records x ++ replicate (1024 - 24 * i) 0) (take_all i ds (omega arith)) ∙ ap (λ (j : ℕ). records ds ++ replicate (1024 - 24 * j) 0) h

@@ -1,9 +1,12 @@
 -- A name and its text: the text is what stands before the zero bytes.
-use Rattle.std.proofs.Common.{◌≡◌, ℕ, zero, suc, ◌+◌, ◌-◌, ◌<◌, ◌≤◌, Bool, true, false, cond, ◌&&◌, eqb, List, [], ◌∷◌, ◌++◌, length, get_or, take, replicate, sym, refl, ap, ◌∙◌, subst, not-suc-le-zero, arith}
+use Rattle.std.proofs.Common.{◌≡◌, ℕ, zero, suc, ◌-◌, ◌<◌, ◌≤◌, Bool, true, false, cond, ◌&&◌, eqb, List, [], ◌∷◌, ◌++◌, length, get_or, take, replicate, one-add, sym, refl, ap, ◌∙◌, subst, not-suc-le-zero, arith}
 use mathlib.Core.Bool.{false≢true}
-use Rattle.std.proofs.lemmas.List.{append_assoc, append-nil, take_more}
+use Rattle.std.proofs.lemmas.List.{get_or-take, get_or_past}
+use Rattle.std.proofs.lemmas.List.Folds.{length-prefix_len}
+use Rattle.std.proofs.lemmas.List.Sums.{prefix_len_passes}
 use Rattle.std.proofs.lemmas.Bool.Decides.{nat_tests}
-use Rattle.std.specs.List.{AllByRecursion}
+use Rattle.std.specs.List.{AllByRecursion, prefix_len}
+use Rattle.std.specs.Str.{IsAscii}
 use Rattle.doors.specs.Names.{Letter, Named, is_letter, letters, padded, zeros}
 
 not_zero : (n : ℕ) → eqb (suc n) 0 ≡ false
@@ -18,52 +21,30 @@ padded_suc n xs h = let z = not_zero n in grind (arith, nat_tests)
 zeros_suc : (n : ℕ) (xs : List ℕ) → zeros (suc n ∷ xs) ≡ true → ⊥
 zeros_suc n xs h = false≢true (sym (ap (λ (b : Bool). b && zeros xs) (not_zero n)) ∙ h)
 
-letters_push : (xs : List ℕ) (c : ℕ) → letters (xs ++ c ∷ []) ≡ letters xs ++ letters (c ∷ [])
-letters_push [] c = refl
-letters_push (zero ∷ xs) c = letters_push xs c
-letters_push (suc n ∷ xs) c =
-    letters_suc n (xs ++ c ∷ []) ∙ ap (λ (t : List ℕ). suc n ∷ t) (letters_push xs c) ∙ ap (λ (t : List ℕ). t ++ letters (c ∷ [])) (sym (letters_suc n xs))
-
-one_letter : (c : ℕ) → (c ≡ 0 → ⊥) → letters (c ∷ []) ≡ c ∷ []
-one_letter zero h = absurd (h refl)
-one_letter (suc n) h = letters_suc n []
-
--- one letter more of a line that begins with the head, or one zero byte more
-module _ (head t name : List ℕ) (i : ℕ) (h : i < length name) (e : t ≡ head ++ letters (take i name)) where
-  more : head ++ letters (take (i + 1) name) ≡ t ++ letters (get_or name i 0 ∷ [])
-  more =
-      ap (λ (x : List ℕ). head ++ letters x) (take_more name i 0 h) ∙ ap (λ (x : List ℕ). head ++ x) (letters_push (take i name) (get_or name i 0))
-      ∙ sym (append_assoc head (letters (take i name)) (letters (get_or name i 0 ∷ []))) ∙ ap (λ (x : List ℕ). x ++ letters (get_or name i 0 ∷ [])) (sym e)
-
-  line_more : (get_or name i 0 ≡ 0 → ⊥) → t ++ get_or name i 0 ∷ [] ≡ head ++ letters (take (i + 1) name)
-  line_more n = ap (λ (x : List ℕ). t ++ x) (sym (one_letter (get_or name i 0) n)) ∙ sym more
-
-  pub line_pushed : {u enc : List ℕ} {c : ℕ} → u ≡ t ++ enc → c ≡ get_or name i 0 → (c < 128 → enc ≡ c ∷ []) → get_or name i 0 < 128 → (get_or name i 0 ≡ 0 → ⊥) → u ≡ head ++ letters (take (i + 1) name)
-  line_pushed {c = c} p q a small n = let k : c < 128 = omega arith in p ∙ ap (λ (x : List ℕ). t ++ x) (a k ∙ ap (λ (x : ℕ). x ∷ []) q) ∙ line_more n
-
-  pub line_skip : get_or name i 0 ≡ 0 → t ≡ head ++ letters (take (i + 1) name)
-  line_skip z = sym (append-nil t) ∙ ap (λ (c : ℕ). t ++ letters (c ∷ [])) (sym z) ∙ sym more
-
 zeros_all : (xs : List ℕ) → zeros xs ≡ true → (letters xs ≡ []) × (xs ≡ replicate (length xs) 0)
 zeros_all [] h = (refl, refl)
 zeros_all (zero ∷ xs) h = let r = zeros_all xs h in (r.0, ap (λ (t : List ℕ). 0 ∷ t) r.1)
 zeros_all (suc n ∷ xs) h = absurd (zeros_suc n xs h)
 
-zeros_at : (xs : List ℕ) (i : ℕ) → zeros xs ≡ true → get_or xs i 0 ≡ 0
-zeros_at [] i h = refl
-zeros_at (zero ∷ xs) zero h = refl
-zeros_at (zero ∷ xs) (suc i) h = zeros_at xs i h
-zeros_at (suc n ∷ xs) i h = absurd (zeros_suc n xs h)
-
 ascii_letter : (c : ℕ) → is_letter c ≡ true → c < 128
 ascii_letter c h = grind (arith, nat_tests)
 
-pub ascii_at : (name : List ℕ) (i : ℕ) → padded name ≡ true → get_or name i 0 < 128
-ascii_at [] i h = omega arith
-ascii_at (zero ∷ xs) zero h = omega arith
-ascii_at (zero ∷ xs) (suc i) h = let z = zeros_at xs i h in omega arith
-ascii_at (suc n ∷ xs) zero h = ascii_letter (suc n) (padded_suc n xs h).0
-ascii_at (suc n ∷ xs) (suc i) h = ascii_at xs i (padded_suc n xs h).1
+-- the letters of a padded name are those at its front
+pub letters-padded : (name : List ℕ) → padded name ≡ true → take (prefix_len is_letter name) name ≡ letters name
+letters-padded [] h = refl
+letters-padded (zero ∷ xs) h = sym (zeros_all xs h).0
+letters-padded (suc n ∷ xs) h =
+    let k = padded_suc n xs h in
+    rw (k.0, one-add, letters_suc n xs) (ap (λ (t : List ℕ). suc n ∷ t) (letters-padded xs k.1))
+
+pub ascii_front : (name : List ℕ) → IsAscii (take (prefix_len is_letter name) name)
+ascii_front name i =
+    let passes = prefix_len_passes is_letter name i 0 in
+    let letter = ascii_letter (get_or name i 0) in
+    let at = get_or-take (prefix_len is_letter name) name i 0 in
+    let past = get_or_past (take (prefix_len is_letter name) name) i 0 in
+    let long = length-prefix_len is_letter name in
+    grind arith
 
 -- a padded name is its letters, filled up
 record Split (name text : List ℕ) : Type 0 where

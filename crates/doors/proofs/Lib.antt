@@ -1,6 +1,5 @@
 pub mod Fields
 pub mod Fills
-pub mod Bytes
 pub mod Doors
 pub mod Letters
 pub mod Canonical

@@ -1,6 +1,7 @@
 -- The doors that an image holds: those that were laid, and no others.
-use Rattle.std.proofs.Common.{◌≡◌, ℕ, zero, suc, ◌+◌, ◌-◌, ◌*◌, ◌<◌, ◌≤◌, List, [], ◌∷◌, ◌++◌, length, take, drop, replicate, sym, refl, ap, ◌∙◌, subst, ap₂, arith}
-use Rattle.std.proofs.lemmas.List.{append_assoc, append-nil, drop_at, drop-drop, take_at}
+use Rattle.std.proofs.Common.{◌≡◌, ℕ, zero, suc, ◌+◌, ◌-◌, ◌*◌, ◌/◌, ◌<◌, ◌≤◌, List, [], ◌∷◌, ◌++◌, length, get_or, take, drop, replicate, sym, refl, ap, ◌∙◌, subst, ap₂, arith}
+use Rattle.std.proofs.lemmas.List.{append_assoc, append-nil, drop_all, drop_at, drop_more, take_at}
+use Rattle.std.specs.Simd.{first_chunks}
 use Rattle.doors.specs.Records.{Parted, laid, record_bytes}
 use Rattle.doors.specs.Rounds.{Holds, image_of, records}
 use Rattle.doors.specs.declared.types.Door.{Door}
@@ -58,29 +59,32 @@ held (suc n) z (d ∷ ds) (e ∷ es) l m h =
 pub held_image : (image : List ℕ) (es : List Door) → Holds 42 image es → (ds : List Door) → length ds ≤ 42 → image ≡ image_of ds → es ≡ ds
 held_image image es h ds l e = held 42 (1024 - 24 * length ds) ds es l (omega arith) (subst (λ (t : List ℕ). Holds 42 t es) e h)
 
--- reading on: what the places from i on hold, behind the doors before them, is what the image holds
-abbrev pub Reading : ℕ → List ℕ → List Door → Type 0
-Reading i image ds = (rest : List Door) → Holds (42 - i) (drop (24 * i) image) rest → Holds 42 image (ds ++ rest)
+-- the doors of some places, up to the first that holds none
+abbrev pub HoldsEach : List (List ℕ) → List Door → Type 0
+HoldsEach [] [] = Unit {0}
+HoldsEach [] (d ∷ ds) = ⊥
+HoldsEach (p ∷ ps) [] = (d : Door) → record_bytes d ≡ p → ⊥
+HoldsEach (p ∷ ps) (d ∷ ds) = (record_bytes d ≡ p) × HoldsEach ps ds
 
-pub reading_more : (i w : ℕ) (image bytes : List ℕ) (ds : List Door) (d : Door) → i < 42 → w ≡ 24 → bytes ≡ take w (drop (24 * i) image) → record_bytes d ≡ bytes
-    → Reading i image ds → Reading (i + 1) image (ds ++ (d ∷ []))
-reading_more i w image bytes ds d h wide b e inv rest r =
-    let k : 42 - i ≡ suc (42 - (i + 1)) = omega arith in
-    let dd : drop (24 * (i + 1)) image ≡ drop 24 (drop (24 * i) image) = sym (drop-drop 24 (24 * i) image ∙ ap (λ (n : ℕ). drop n image) (let q : 24 * i + 24 ≡ 24 * (i + 1) = omega arith in q)) in
-    let here : record_bytes d ≡ take 24 (drop (24 * i) image) = e ∙ b ∙ ap (λ (n : ℕ). take n (drop (24 * i) image)) wide in
-    let more : Holds (42 - (i + 1)) (drop 24 (drop (24 * i) image)) rest = subst (λ (t : List ℕ). Holds (42 - (i + 1)) t rest) dd r in
-    let step : Holds (42 - i) (drop (24 * i) image) (d ∷ rest) = subst (λ (n : ℕ). Holds n (drop (24 * i) image) (d ∷ rest)) (sym k) (here, more) in
-    subst (λ (t : List Door). Holds 42 image t) (sym (append_assoc ds (d ∷ []) rest)) (inv (d ∷ rest) step)
+holds_chunks : (n : ℕ) (xs : List ℕ) (ds : List Door) → HoldsEach (first_chunks 24 n xs) ds → Holds n xs ds
+holds_chunks zero xs [] h = tt
+holds_chunks zero xs (d ∷ ds) h = absurd h
+holds_chunks (suc n) xs [] h = h
+holds_chunks (suc n) xs (d ∷ ds) h = (h.0, holds_chunks n (drop 24 xs) ds h.1)
 
-pub reading_none : (i w : ℕ) (image bytes : List ℕ) (ds : List Door) → i < 42 → w ≡ 24 → bytes ≡ take w (drop (24 * i) image) → ((d : Door) → record_bytes d ≡ bytes → ⊥)
-    → Reading i image ds → Holds 42 image ds
-reading_none i w image bytes ds h wide b none inv =
-    let k : 42 - i ≡ suc (42 - (i + 1)) = omega arith in
-    let here : Holds (42 - i) (drop (24 * i) image) [] =
-    subst (λ (n : ℕ). Holds n (drop (24 * i) image) []) (sym k) (λ d e. none d (e ∙ ap (λ (n : ℕ). take n (drop (24 * i) image)) (sym wide) ∙ sym b)) in
-    subst (λ (t : List Door). Holds 42 image t) (append-nil ds) (inv [] here)
+-- reading on: what the places from i on hold, behind the doors before them, is what all places hold
+abbrev pub Reading : ℕ → List (List ℕ) → List Door → Type 0
+Reading i places ds = (rest : List Door) → HoldsEach (drop i places) rest → HoldsEach places (ds ++ rest)
 
-pub reading_end : (i : ℕ) (image : List ℕ) (ds : List Door) → 42 ≤ i → Reading i image ds → Holds 42 image ds
-reading_end i image ds h inv =
-    let k : 42 - i ≡ 0 = omega arith in
-    subst (λ (t : List Door). Holds 42 image t) (append-nil ds) (inv [] (subst (λ (n : ℕ). Holds n (drop (24 * i) image) []) (sym k) tt))
+module _ (places : List (List ℕ)) (ds : List Door) (i : ℕ) where
+  pub reading_none : i < length places → ((d : Door) → record_bytes d ≡ get_or places i [] → ⊥) → Reading i places ds → HoldsEach places ds
+  reading_none h none inv =
+      subst (λ (t : List Door). HoldsEach places t) (append-nil ds) (inv [] (subst (λ (t : List (List ℕ)). HoldsEach t []) (sym (drop_more places i [] h)) none))
+
+  pub reading_end : length places ≤ i → Reading i places ds → HoldsEach places ds
+  reading_end h inv = subst (λ (t : List Door). HoldsEach places t) (append-nil ds) (inv [] (subst (λ (t : List (List ℕ)). HoldsEach t []) (sym (drop_all i places h)) tt))
+
+-- what the places hold is what the image holds
+pub held_places : (image : List ℕ) {places : List (List ℕ)} (ds : List Door) → length image ≡ 1024 → places ≡ first_chunks 24 (length image / 24) image → HoldsEach places ds → Holds 42 image ds
+held_places image ds l e h =
+    subst (λ (n : ℕ). Holds n image ds) (ap (λ (k : ℕ). k / 24) l) (holds_chunks (length image / 24) image ds (subst (λ (t : List (List ℕ)). HoldsEach t ds) e h))

@@ -1,5 +1,5 @@
 -- Doors and their lines, one after the other.
-use Rattle.std.proofs.Common.{◌≡◌, ℕ, zero, suc, ◌+◌, ◌-◌, ◌<◌, ◌⊎◌, List, [], ◌∷◌, ◌++◌, length, get_or, take, drop, sym, refl, ap, ◌∙◌, subst, inl, inr, le_of_suc-le-suc, not-suc-le-zero, arith, length-drop}
+use Rattle.std.proofs.Common.{◌≡◌, ℕ, zero, suc, ◌+◌, ◌-◌, ◌<◌, ◌⊎◌, List, [], ◌∷◌, ◌++◌, length, get_or, take, drop, sym, refl, ap, ◌∙◌, subst, inl, inr, le_of_suc-le-suc, not-suc-le-zero, arith, length-drop, Result, Ok, Err, MatchResult}
 use Rattle.std.proofs.lemmas.List.{drop_more, take_all, take_more}
 use Rattle.std.specs.List.{AllByRecursion}
 use Rattle.doors.specs.Lines.{NoDoor, Written, Wrong}
@@ -7,9 +7,10 @@ use Rattle.lines.specs.Lines.{ended, lines, unended}
 use Rattle.doors.specs.Rounds.{Each, NoRound, Explains, Round}
 use Rattle.doors.specs.declared.types.Door.{Door}
 use Rattle.doors.specs.declared.types.Fault.{Fault}
+use Rattle.doors.specs.declared.types.RoundError.{RoundError}
 use Rattle.doors.specs.declared.types.RoundError.TheVariants.{Line}
 use Rattle.doors.proofs.Fields.{one_door}
-use Rattle.lines.proofs.Splits.{Clean, joins_lines, lines-ended, lines_nil, lines-unended}
+use Rattle.lines.proofs.Splits.{Clean, joins_lines, lines-ended, lines-unended}
 use Rattle.doors.proofs.Clean.{written_clean}
 
 each_clean : (ts : List (List ℕ)) (ds : List Door) → Each ts ds → AllByRecursion Clean ts
@@ -90,6 +91,12 @@ line_refused input k j line rest ds f p l h e w =
       line_no_round input k line rest e w.1,
     )
 
+-- a line that is no door ends with its fault
+pub line_error : {line : List ℕ} {g : RoundError} {n : ℕ} {Q : Fault → Type 0} (r : Result Door Fault) → MatchResult r (λ (d : Door). ◌≡◌ {A = Result Door RoundError} (Err g) (Ok d)) Q
+    → ((f : Fault) → Q f → g ≡ Line n f) → MatchResult r (λ (d : Door). Written line d) (λ (f : Fault). Wrong line f × NoDoor line) → (f : Fault) × (g ≡ Line n f) × (Wrong line f × NoDoor line)
+line_error (Ok d) h k m = absurd (let z : ⊥ = cc in z)
+line_error (Err f) h k m = (f, k f h, m)
+
 -- one line and its door more
 pub each_more : (ls rest : List (List ℕ)) (k j : ℕ) (line : List ℕ) (ds es : List Door) (d : Door) → Each (take k ls) ds → drop k ls ≡ line ∷ rest → Written line d → j ≡ k + 1 → es ≡ ds ++ d ∷ []
     → Each (take j ls) es × (drop j ls ≡ rest)
@@ -100,8 +107,8 @@ each_more ls rest k j line ds es d h e w p q =
     (subst (λ (x : List (List ℕ)). Each x es) (sym t) (subst (Each (take k ls ++ line ∷ [])) (sym q) g), ap (λ (i : ℕ). drop i ls) p ∙ n.after)
 
 -- no line is left
-pub round_end : (input rest : List ℕ) (k : ℕ) (ds : List Door) → length (lines input) ≡ 40 → rest ≡ [] → Each (take k (lines input)) ds → drop k (lines input) ≡ lines rest → Round input ds
-round_end input rest k ds l z h e =
-    let n : length (lines input) - k ≡ 0 = sym (length-drop k (lines input)) ∙ ap length (e ∙ ap lines z ∙ lines_nil) in
+pub round_end : (input : List ℕ) (k : ℕ) (ds : List Door) → length (lines input) ≡ 40 → Each (take k (lines input)) ds → drop k (lines input) ≡ [] → Round input ds
+round_end input k ds l h e =
+    let n : length (lines input) - k ≡ 0 = sym (length-drop k (lines input)) ∙ ap length e in
     let w : Each (lines input) ds = subst (λ (ts : List (List ℕ)). Each ts ds) (take_all k (lines input) (omega arith)) h in
     record { forty = sym (each_length (lines input) ds w) ∙ l; texts = lines input; written = w; whole = joins_lines input }

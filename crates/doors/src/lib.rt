@@ -9,4 +9,4 @@ mod types;
 
 pub use line::parse_door;
 pub use round::{lay_round, parse_round, read_round};
-pub use types::{Door, Fault, RoundError};
+pub use types::{Door, Fault, RoundError, TooManyDoors};

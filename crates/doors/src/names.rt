@@ -1,7 +1,11 @@
 //! Names of doors: one to ten characters, in ten bytes.
 
-ghost use Rattle.std.specs.Prelude.{◌≡◌, ℕ, List, MatchOption};
-ghost use Rattle.doors.specs.Names.{Named, is_letter, padded};
+ghost use Rattle.std.specs.Prelude.{◌≡◌, ◌==◌, ◌≤◌, ℕ, true, List, drop, MatchOption};
+ghost use Rattle.std.specs.List.{list_all, prefix_len};
+ghost use Rattle.doors.specs.Names.{Named, is_letter, letters, padded};
+
+// The bytes of a name.
+pub(crate) const NAME: usize = 10;
 
 // A letter here is any character that a name may have: A-Z, a-z, 0-9 and '-'.
 fn is_letter(c: u8) -> bool
@@ -11,33 +15,37 @@ fn is_letter(c: u8) -> bool
 }
 
 // A name of one to ten letters, filled up with zero bytes.
-pub(crate) fn take_name(s: &[u8]) -> Option<[u8; 10]>
+pub(crate) fn take_name(s: &[u8]) -> Option<[u8; NAME]>
     ensures { MatchOption result ((name : List ℕ) → Named s.now name → ⊥) (λ name. Named s.now name) }
 {
-    if s.is_empty() || s.len() > 10 {
+    if s.is_empty() || s.len() > NAME || !s.iter().all(|c| is_letter(*c)) {
         return None;
     }
-    let mut name = [0; 10];
-    for (i, c) in s.iter().enumerate() {
-        if !is_letter(*c) {
-            return None;
-        }
-        name[i] = *c;
-    }
+    let mut name = [0; NAME];
+    name[..s.len()].copy_from_slice(s);
     Some(name)
 }
 
 // Whether these are letters and then zero bytes up to the end.
-pub(crate) fn is_padded(name: &[u8; 10]) -> bool
-    ensures { result ≡ padded name.now }
+pub(crate) fn is_padded(name: &[u8; NAME]) -> bool
+    ensures { result ≡ list_all (λ c. c == 0) (drop (prefix_len is_letter name.now) name.now) }
 {
-    let mut ended = false;
-    for c in name {
-        if *c == 0 {
-            ended = true;
-        } else if ended || !is_letter(*c) {
-            return false;
-        }
-    }
-    true
+    name.iter().skip_while(|c| is_letter(**c)).all(|c| *c == 0)
+}
+
+// How many letters the name begins with.
+fn count_letters(name: &[u8; NAME]) -> usize
+    ensures within { result ≤ 10 }
+    ensures value { result ≡ prefix_len is_letter name.now }
+{
+    name.iter().take_while(|c| is_letter(**c)).count()
+}
+
+// The letters of a name, without the zero bytes.
+pub(crate) fn letters_of(name: &[u8; NAME]) -> &str
+    requires { padded name.now ≡ true }
+    ensures { result.now ≡ letters name.now }
+{
+    let n = count_letters(name);
+    str::from_utf8(&name[..n]).unwrap()
 }

@@ -1,23 +1,29 @@
 //! A round of forty doors: its text, a line for each door, and its image, the records one after the other.
 
-ghost use Rattle.std.specs.Prelude.{◌≡◌, ◌<◌, ◌≤◌, List, length, IfOk, MatchBool, MatchResult};
+ghost use Rattle.std.specs.Prelude.{◌≡◌, ◌<◌, ◌≤◌, List, length, Some, codes, IfOk, MatchResult};
+ghost use Rattle.doors.specs.declared.types.RoundError.TheVariants.{Memory};
 ghost use Rattle.doors.specs.Rounds.{Explains, Holds, Round, image_of};
 
 use super::line::parse_door;
-use super::types::{Door, RoundError};
-use lines::{count_lines, take_line};
-use std::alloc::{AllocError, Global};
+use super::record::RECORD;
+use super::types::{Door, RoundError, TooManyDoors};
+use lines::{Lines, count_lines};
+use std::alloc::{AllocError, AllocFailed, Global};
 use std::error::Error;
 use std::fmt;
+
+// The doors of a round, the bytes of its image, and the places of records there.
+const ROUND: usize = 40;
+
+const IMAGE: usize = 1024;
+
+const PLACES: usize = IMAGE / RECORD;
 
 impl fmt::Display for RoundError {
     fn fmt<W: fmt::Write>(&self, f: &mut fmt::Formatter<W>) -> fmt::Result {
         match *self {
             RoundError::Count(count) => write!(f, "a round has 40 lines, and there are {count}"),
-            RoundError::Line { number, fault } => {
-                let text = fault.text();
-                write!(f, "line {number}: {text}")
-            }
+            RoundError::Line { number, fault } => write!(f, "line {number}: {fault}"),
             RoundError::Memory => f.pad("there is no memory for the doors"),
         }
     }
@@ -25,61 +31,69 @@ impl fmt::Display for RoundError {
 
 impl Error for RoundError {}
 
+impl From<AllocFailed<Door>> for RoundError {
+    ghost from_gives = { λ _ e. e ≡ Memory };
+
+    fn from(_failed: AllocFailed<Door>) -> RoundError {
+        RoundError::Memory
+    }
+}
+
+impl fmt::Display for TooManyDoors {
+    ghost output = { λ _. Some (codes "the doors do not fit into two sectors") };
+
+    fn fmt<W: fmt::Write>(&self, f: &mut fmt::Formatter<W>) -> fmt::Result {
+        f.write_str("the doors do not fit into two sectors")
+    }
+}
+
+impl Error for TooManyDoors {}
+
 /// The forty doors of a round: a line each, ended by LF; the last LF may be missing.
 pub fn parse_round(heap: Global, input: &[u8]) -> Result<Vec<Door>, RoundError>
     ensures cases { MatchResult result (λ v. Round input.now v.items) (λ e. Explains input.now e) }
     ensures only { IfOk result (λ v. (ds : List Door) → Round input.now ds → v.items ≡ ds) }
 {
     let count = count_lines(input);
-    if count != 40 {
+    if count != ROUND {
         return Err(RoundError::Count(count));
     }
     let mut doors = Vec::new(heap);
-    let mut rest = input;
-    while let Some((line, after)) = take_line(rest) {
-        let door = match parse_door(line) {
-            Ok(door) => door,
-            Err(fault) => return Err(RoundError::Line {
-                number: doors.len() + 1,
-                fault,
-            }),
-        };
-        let Ok(()) = doors.push(door) else {
-            return Err(RoundError::Memory);
-        };
-        rest = after;
+    for line in Lines::new(input) {
+        let number = doors.len() + 1;
+        let door = parse_door(line).map_err(|fault| RoundError::Line { number, fault })?;
+        doors.push(door)?;
     }
     Ok(doors)
 }
 
 /// Lays the doors' records into the image, one after the other, and fills up with zero bytes. Where
 /// there are more than 42, which do not fit, the image is left as it was.
-pub fn lay_round(doors: &[Door], image: &mut [u8; 1024]) -> bool
-    ensures cases { MatchBool result ((length doors.now ≤ 42) × (image.new ≡ image_of doors.now)) ((42 < length doors.now) × (image.new ≡ image.old)) }
+pub fn lay_round(doors: &[Door], image: &mut [u8; IMAGE]) -> Result<(), TooManyDoors>
+    ensures cases { MatchResult result (λ _. (length doors.now ≤ 42) × (image.new ≡ image_of doors.now)) (λ _. (42 < length doors.now) × (image.new ≡ image.old)) }
 {
-    if doors.len() > 42 {
-        return false;
+    if doors.len() > PLACES {
+        return Err(TooManyDoors);
     }
     image.fill(0);
+    // by place, since a proof knows nothing of what chunks_exact_mut lent once the loan is over
     for (i, door) in doors.iter().enumerate() {
-        let at = 24 * i;
-        image[at..at + 24].copy_from_slice(&door.to_record());
+        let at = RECORD * i;
+        image[at..at + RECORD].copy_from_slice(&door.to_record());
     }
-    true
+    Ok(())
 }
 
 /// The doors of an image, up to the first place that holds none. What `lay_round` laid comes back.
-pub fn read_round(heap: Global, image: &[u8; 1024]) -> Result<Vec<Door>, AllocError>
+pub fn read_round(heap: Global, image: &[u8; IMAGE]) -> Result<Vec<Door>, AllocError>
     ensures made { IfOk result (λ v. Holds 42 image.now v.items) }
     ensures back { IfOk result (λ v. (ds : List Door) → length ds ≤ 42 → image.now ≡ image_of ds → v.items ≡ ds) }
 {
     let mut doors = Vec::new(heap);
-    for i in 0..42usize {
-        let place = 24 * i;
-        let mut bytes = [0; 24];
-        bytes.copy_from_slice(&image[place..place + 24]);
-        let Some(door) = Door::from_record(bytes) else {
-            return Ok(doors);
+    let (places, _) = image.as_chunks::<RECORD>();
+    for bytes in places {
+        let Some(door) = Door::from_record(*bytes) else {
+            break;
         };
         doors.push(door)?;
     }

@@ -3,6 +3,8 @@
 ghost use Rattle.std.specs.Prelude.{◌≡◌, ◌≤◌, true, length, slice_index};
 ghost use Rattle.doors.specs.Names.{padded};
 
+use super::names::NAME;
+
 /// A door that a guard touched.
 #[derive(Clone, Copy, PartialEq, Eq)]
 pub struct Door {
@@ -13,7 +15,7 @@ pub struct Door {
     /// Seconds since 1970-01-01 UTC, at most 9,999,999,999.
     pub time: u64,
     /// 1 to 10 characters, filled up with zero bytes.
-    pub name: [u8; 10],
+    pub name: [u8; NAME],
     ghost numbered: { (1 ≤ number) × (number ≤ 65535) },
     ghost badged: { badge ≤ 999999 },
     ghost timed: { time ≤ 9999999999 },
@@ -41,3 +43,7 @@ pub enum RoundError {
     /// There is no memory for the doors.
     Memory,
 }
+
+/// There are more doors than an image has places for.
+#[derive(Clone, Copy, PartialEq, Eq, Debug)]
+pub struct TooManyDoors;

@@ -4,18 +4,11 @@
 #[cfg(test)]
 mod tests {
     use decimal::take_number;
-    use doors::{Door, Fault, RoundError, lay_round, parse_door, parse_round, read_round};
-    use std::alloc::{AllocError, Global};
+    use doors::{
+        Door, Fault, RoundError, TooManyDoors, lay_round, parse_door, parse_round, read_round,
+    };
+    use std::alloc::Global;
     use std::test::Fail;
-
-    // The text of a round of `n` lines, each of them this one.
-    fn repeated(heap: Global, line: &[u8], n: usize) -> Result<Vec<u8>, AllocError> {
-        let mut text = Vec::new(heap);
-        for _ in 0..n {
-            text.extend_from_slice(line)?;
-        }
-        Ok(text)
-    }
 
     fn wrong(line: &[u8], fault: Fault) -> bool {
         parse_door(line).err() == Some(fault)
@@ -104,9 +97,7 @@ mod tests {
     #[test]
     fn a_record_is_read_back(rt: HostRuntime) -> Result<(), Fail> {
         let door = parse_door(b"258 66051 4328719365 Gate")?;
-        let Some(back) = Door::from_record(door.to_record()) else {
-            return Err(Fail::new("no door"));
-        };
+        let back = Door::from_record(door.to_record()).ok_or("no door")?;
         assert!(rt; back.to_record() == door.to_record());
         assert!(rt; Door::from_record([0; 24]).is_none());
         assert!(rt;
@@ -117,7 +108,7 @@ mod tests {
 
     #[test]
     fn a_round_is_forty_lines(rt: HostRuntime) -> Result<(), Fail> {
-        let text = repeated(rt.alloc(), b"7 42 9 A\n", 41)?;
+        let text = b"7 42 9 A\n".repeat(rt.alloc(), 41)?;
         assert!(rt; text.len() == 9 * 41);
         let input = text.as_slice();
         assert!(rt; refused(rt.alloc(), b"", RoundError::Count(0)));
@@ -129,7 +120,7 @@ mod tests {
 
     #[test]
     fn the_last_lf_may_be_missing(rt: HostRuntime) -> Result<(), Fail> {
-        let mut text = repeated(rt.alloc(), b"7 42 9 A\n", 39)?;
+        let mut text = b"7 42 9 A\n".repeat(rt.alloc(), 39)?;
         text.extend_from_slice(b"8 42 9 B")?;
         let doors = parse_round(rt.alloc(), text.as_slice())?;
         assert!(rt; doors.len() == 40);
@@ -139,13 +130,13 @@ mod tests {
 
     #[test]
     fn a_wrong_line_is_named(rt: HostRuntime) -> Result<(), Fail> {
-        let windows = repeated(rt.alloc(), b"7 42 9 A\r\n", 40)?;
+        let windows = b"7 42 9 A\r\n".repeat(rt.alloc(), 40)?;
         let first = RoundError::Line {
             number: 1,
             fault: Fault::Name,
         };
         assert!(rt; refused(rt.alloc(), windows.as_slice(), first));
-        let mut text = repeated(rt.alloc(), b"7 42 9 A\n", 39)?;
+        let mut text = b"7 42 9 A\n".repeat(rt.alloc(), 39)?;
         text.extend_from_slice(b"\n")?;
         let last = RoundError::Line {
             number: 40,
@@ -160,7 +151,7 @@ mod tests {
         let first = parse_door(b"1 2 3 A")?;
         let second = parse_door(b"4 5 6 B")?;
         let mut image = [255; 1024];
-        assert!(rt; lay_round(&[first, second], &mut image));
+        assert!(rt; lay_round(&[first, second], &mut image).is_ok());
         assert!(rt;
             &image[0..24] == b"\0\x01\0\0\0\x02\0\0\0\0\0\0\0\x03A\0\0\0\0\0\0\0\0\0".as_slice()
         );
@@ -175,9 +166,9 @@ mod tests {
     fn too_many_records_are_refused(rt: HostRuntime) -> Result<(), Fail> {
         let door = parse_door(b"1 2 3 A")?;
         let mut image = [255; 1024];
-        assert!(rt; !lay_round(&[door; 43], &mut image));
+        assert!(rt; lay_round(&[door; 43], &mut image) == Err(TooManyDoors));
         assert!(rt; image == [255; 1024]);
-        assert!(rt; lay_round(&[door; 42], &mut image));
+        assert!(rt; lay_round(&[door; 42], &mut image).is_ok());
         assert_eq!(rt; image[24 * 41 + 1], 1);
         Ok(())
     }
@@ -187,7 +178,7 @@ mod tests {
         let door = parse_door(b"1 2 3 A")?;
         let mut image = [255; 1024];
         assert_eq!(rt; read_round(rt.alloc(), &image)?.len(), 0);
-        assert!(rt; lay_round(&[door; 42], &mut image));
+        assert!(rt; lay_round(&[door; 42], &mut image).is_ok());
         assert!(rt; read_round(rt.alloc(), &image)?.as_slice() == [door; 42].as_slice());
         Ok(())
     }

@@ -1,47 +1,18 @@
 //! Hexadecimal: two digits a byte, the high one first. Written in lower case, read in either.
 #![tactic(auto)]
 
-ghost use Rattle.std.specs.Prelude.{◌≡◌, ℕ, ◌/◌, ◌%◌, ◌<◌, List, IfOk, string_bytes, MatchOption};
-ghost use Rattle.hexadecimal.specs.Hex.{Bytes, Decodes, Digit, Pair, digit, encoded};
+ghost use Rattle.std.specs.Prelude.{◌≡◌, ℕ, List, IfOk, string_bytes, MatchOption};
+ghost use Rattle.hexadecimal.specs.Hex.{Bytes, Decodes, Pair, encoded};
 
 use std::alloc::{AllocError, Global};
 
-// The digit of a value, in lower case.
-fn digit_of(v: u8) -> char
-    requires { v < 16 }
-    ensures value { result ≡ digit v }
-    ensures ascii { result < 128 }
-{
-    if v < 10 {
-        char::from(b'0' + v)
-    } else {
-        char::from(b'a' + (v - 10))
-    }
-}
-
-// The value of a digit of either case.
-fn value_of(c: u8) -> Option<u8>
-    ensures { MatchOption result ((v : ℕ) → Digit c v → ⊥) (λ v. Digit c v) }
-{
-    match c {
-        b'0'..=b'9' => Some(c - b'0'),
-        b'a'..=b'f' => Some(c - b'a' + 10),
-        b'A'..=b'F' => Some(c - b'A' + 10),
-        _ => None,
-    }
-}
-
-// The byte that two digits write.
+// The byte that two digits of either case write.
 fn byte_of(high: u8, low: u8) -> Option<u8>
     ensures { MatchOption result ((b : ℕ) → Pair high low b → ⊥) (λ b. Pair high low b) }
 {
-    let Some(h) = value_of(high) else {
-        return None;
-    };
-    let Some(l) = value_of(low) else {
-        return None;
-    };
-    Some(h * 16 + l)
+    let high = char::from(high).to_digit(16)?;
+    let low = char::from(low).to_digit(16)?;
+    Some((high * 16 + low) as u8)
 }
 
 /// The bytes in lower-case digits.
@@ -50,8 +21,7 @@ pub fn encode(heap: Global, bytes: &[u8]) -> Result<String, AllocError>
 {
     let mut text = String::new(heap);
     for b in bytes {
-        text.push(digit_of(*b / 16))?;
-        text.push(digit_of(*b % 16))?;
+        write!(text, "{b:02x}")?;
     }
     Ok(text)
 }
@@ -60,12 +30,15 @@ pub fn encode(heap: Global, bytes: &[u8]) -> Result<String, AllocError>
 pub fn decode(heap: Global, text: &[u8]) -> Result<Option<Vec<u8>>, AllocError>
     ensures made { IfOk result (λ o. MatchOption o ((bs : List ℕ) → Decodes text.now bs → ⊥) (λ v. Decodes text.now v.items)) }
 {
-    if text.len() % 2 != 0 {
+    // not by the library `hex`: want of memory is an error of its own there, and nothing turns that into an AllocError
+    let (pairs, odd) = text.as_chunks::<2>();
+    if !odd.is_empty() {
         return Ok(None);
     }
     let mut bytes = Vec::new(heap);
-    for i in 0..text.len() / 2 {
-        let Some(b) = byte_of(text[2 * i], text[2 * i + 1]) else {
+    for [high, low] in pairs {
+        // `?` would leave with an error, and that there are no bytes is an answer
+        let Some(b) = byte_of(*high, *low) else {
             return Ok(None);
         };
         bytes.push(b)?;

@@ -1,9 +1,11 @@
 -- A text is its lines, and lines are found again in their text.
-use Rattle.std.proofs.Common.{◌≡◌, ℕ, ◌+◌, ◌<◌, ◌≤◌, Bool, true, false, cond, eqb, ◌⊎◌, List, [], ◌∷◌, ◌++◌, length, get_or, take, drop, sym, refl, ap, ◌∙◌, subst, inl, inr, not-suc-le-zero, arith}
+use Rattle.std.proofs.Common.{◌≡◌, ℕ, suc, ◌+◌, ◌<◌, ◌≤◌, Bool, true, false, cond, eqb, ◌⊎◌, List, [], ◌∷◌, ◌++◌, length, get_or, take, drop, Some, None, not, ◌==◌, sym, refl, ap, ◌∙◌, subst, inl, inr, not-suc-le-zero, arith}
 use Rattle.std.proofs.ByRecursion.{All-from_get_or}
 use Rattle.std.proofs.lemmas.List.{drop_more, get_or-take, length-take-le, take_all, take-append-drop}
 use Rattle.std.proofs.lemmas.Bool.Decides.{eqb_tells, nat_tests}
-use Rattle.std.specs.List.{AllByRecursion}
+use Rattle.std.proofs.lemmas.List.Quantifiers.{position-Some}
+use Rattle.std.proofs.lemmas.List.Sums.{prefix_len_passes}
+use Rattle.std.specs.List.{AllByRecursion, position, position_or_len}
 use Rattle.lines.specs.Lines.{ended, front, lines, unended}
 
 abbrev pub NotLf : ℕ → Type 0
@@ -43,6 +45,19 @@ lines-unended [] h = lines_nil
 lines-unended (t ∷ []) h = lines_last t h.0
 lines-unended (t ∷ u ∷ ts) h = lines_line t (unended (u ∷ ts)) h.0.0 ∙ ap (λ (r : List (List ℕ)). t ∷ r) (lines-unended (u ∷ ts) h.1)
 
+front_few : (c : ℕ) (ls : List (List ℕ)) → length (front c ls) ≤ suc (length ls)
+front_few c [] = omega arith
+front_few c (l ∷ ls) = omega arith
+
+-- a text has no more lines than characters
+pub lines_few : (s : List ℕ) → length (lines s) ≤ length s
+lines_few [] = let e = ap length lines_nil in omega arith
+lines_few (c ∷ cs) = go (eqb_tells c 10) (lines_few cs)
+  where
+    go : ((eqb c 10 ≡ true) × (c ≡ 10)) ⊎ ((eqb c 10 ≡ false) × (c ≡ 10 → ⊥)) → length (lines cs) ≤ length cs → length (lines (c ∷ cs)) ≤ suc (length cs)
+    go (inl p) h = let e = ap length (ap (λ (x : ℕ). lines (x ∷ cs)) p.1 ∙ lines_lf cs) in omega arith
+    go (inr p) h = let e = ap length (lines_more c cs p.1) in let f = front_few c (lines cs) in omega arith
+
 -- a text is its lines, each ended by LF, or all but the last one
 abbrev Joins : List ℕ → List (List ℕ) → Type 0
 Joins s ls = (s ≡ ended ls) ⊎ (s ≡ unended ls)
@@ -67,19 +82,23 @@ joins_lines (c ∷ cs) = go (eqb_tells c 10) (joins_lines cs)
     go (inl p) h = subst (λ (x : ℕ). Joins (x ∷ cs) (lines (x ∷ cs))) (sym p.1) (subst (Joins (10 ∷ cs)) (sym (lines_lf cs)) (joins_lf cs (lines cs) h))
     go (inr p) h = subst (Joins (c ∷ cs)) (sym (lines_more c cs p.1)) (joins_more c cs (lines cs) h)
 
--- the first line of a text, found by its LF
-module _ (s : List ℕ) (end : ℕ) (w : end ≤ length s) (before : (k : ℕ) → k < end → get_or s k 0 ≡ 10 → ⊥) where
-  front_clean : AllByRecursion NotLf (take end s)
-  front_clean =
-      let l : length (take end s) ≡ end = length-take-le end s w in
-      All-from_get_or NotLf (take end s) 0 (λ i h e. let k : i < end = omega arith in before i k (sym (get_or-take end s i 0 k) ∙ e))
+-- the first line of a text, by the place of its first LF
+module _ (s : List ℕ) where
+  front_clean : (n : ℕ) → n ≤ length s → ((k : ℕ) → k < n → eqb (get_or s k 0) 10 ≡ false) → AllByRecursion NotLf (take n s)
+  front_clean n w before =
+      let l : length (take n s) ≡ n = length-take-le n s w in
+      All-from_get_or NotLf (take n s) 0 (λ i h e. let k : i < n = omega arith in let b = before i k in let g = get_or-take n s i 0 k in grind (arith, nat_tests))
 
-  pub line_cut : end < length s → get_or s end 0 ≡ 10 → lines s ≡ take end s ∷ lines (drop (end + 1) s)
-  line_cut h e =
-      let d : drop end s ≡ 10 ∷ drop (end + 1) s = drop_more s end 0 h ∙ ap (λ (c : ℕ). c ∷ drop (end + 1) s) e in
-      ap lines (sym (take-append-drop end s) ∙ ap (λ (t : List ℕ). take end s ++ t) d) ∙ lines_line (take end s) (drop (end + 1) s) front_clean
+  pub line_cut : {end : ℕ} → Some end ≡ position (λ b. b == 10) s → (end < length s) × (lines s ≡ take end s ∷ lines (drop (end + 1) s))
+  line_cut {end} p =
+      let f = position-Some (λ b. b == 10) s end 0 (sym p) in
+      let lf : get_or s end 0 ≡ 10 = grind (arith, nat_tests, f.1) in
+      let d : drop end s ≡ 10 ∷ drop (end + 1) s = drop_more s end 0 f.0 ∙ ap (λ (c : ℕ). c ∷ drop (end + 1) s) lf in
+      (f.0, ap lines (sym (take-append-drop end s) ∙ ap (λ (t : List ℕ). take end s ++ t) d) ∙ lines_line (take end s) (drop (end + 1) s) (front_clean end (omega arith) f.2))
 
-  pub line_all : end ≡ length s → 1 ≤ length s → lines s ≡ s ∷ lines []
-  line_all e h =
-      let t : take end s ≡ s = take_all end s (omega arith) in
-      lines_last s (subst (AllByRecursion NotLf) t front_clean, h) ∙ ap (λ (r : List (List ℕ)). s ∷ r) (sym lines_nil)
+  pub line_all : None ≡ position (λ b. b == 10) s → 1 ≤ length s → lines s ≡ s ∷ lines []
+  line_all p h =
+      let t : take (length s) s ≡ s = take_all (length s) s (omega arith) in
+      let no : length s ≤ position_or_len (λ b. b == 10) s = grind (arith, nat_tests, p) in
+      let before : (k : ℕ) → k < length s → eqb (get_or s k 0) 10 ≡ false = λ k l. let q = prefix_len_passes (λ b. not (b == 10)) s k 0 (omega arith) in grind (arith, nat_tests) in
+      lines_last s (subst (AllByRecursion NotLf) t (front_clean (length s) (omega arith) before), h) ∙ ap (λ (r : List (List ℕ)). s ∷ r) (sym lines_nil)

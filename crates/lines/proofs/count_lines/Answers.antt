@@ -1,9 +1,11 @@
-use Rattle.std.proofs.Common.{◌≡◌, ℕ, List, length, ap, ◌∙◌, arith}
-use Rattle.lines.specs.Lines.{lines}
-use Rattle.lines.proofs.Splits.{lines_nil}
+-- There are no more lines than characters.
+use Rattle.std.proofs.Common.{◌<◌, ◌^◌, length, inl, arith, rules, ap}
+use Rattle.lines.proofs.Splits.{lines_few}
 use Rattle.lines.proofs.count_lines.Goals as goal
 
-pub returns : goal.returns
-returns c =
-    let z : length (lines c.loop-after.rest.now) ≡ 0 = ap (λ (t : List ℕ). length (lines t)) c.in_default.ensures ∙ ap length lines_nil in
-    omega arith
+pub count-requires-clause-fits : goal.count-requires-clause-fits
+count-requires-clause-fits c =
+    let few = lines_few c.args.s.now in
+    let long : length c.args.s.now < 2 ^ 64 = search rules in
+    let e = ap length c.new.ensures in
+    inl (omega arith)

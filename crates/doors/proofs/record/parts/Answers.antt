@@ -5,5 +5,5 @@ use Rattle.doors.proofs.record.parts.Goals as goal
 
 pub returns : goal.returns
 returns c =
-    let l : length c.args.bytes ≡ 24 = search rules in
-    parted (omega arith) (omega arith) (omega arith) l c.number_of.ensures c.badge_of.ensures c.time_of.ensures c.copy_from_slice.ensures.after
+    let l : length c.args.bytes.now ≡ 24 = search rules in
+    parted c.args.bytes.now l c.fits-bytes (omega arith) (omega arith) (omega arith) c.part.ensures c.from_be_bytes.ensures c.part-2.ensures c.from_be_bytes-2.ensures c.part-3.ensures c.from_be_bytes-3.ensures c.part-4.ensures

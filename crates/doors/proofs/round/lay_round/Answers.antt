@@ -1,7 +1,7 @@
 -- A turn lays one record more over zero bytes.
 use Rattle.std.proofs.Common.{◌≡◌, ℕ, ◌+◌, ◌-◌, ◌*◌, replicate, ap, ◌∙◌, arith}
 use borrow.Rule.Slice.PartMut.{put_mid}
-use Rattle.doors.proofs.Images.{laid_end, laid_more}
+use Rattle.doors.proofs.Images.{laid_more}
 use Rattle.doors.proofs.round.lay_round.Goals as goal
 
 pub loop-i-init : goal.loop-i-init
@@ -14,6 +14,3 @@ loop-i-preserved c =
     ap (λ (n : ℕ). put_mid (24 * i) n c.loop-i.image c.copy_from_slice.new.self) k
     ∙ laid_more c.args.doors.now i c.index-doors-i.result c.loop-i.image c.copy_from_slice.new.self (omega arith) c.index-doors-i.is (omega arith) c.loop-i.invariant
     (c.copy_from_slice.ensures.after ∙ c.to_record.ensures.value)
-
-pub returns : goal.returns
-returns c = record { cases = (c.if-doors-gt42.false, laid_end c.args.doors.now c.loop-i.i c.loop-i.image (omega arith) c.loop-i.invariant) }
