@@ -20,6 +20,7 @@ use store::SectorSize;
 pub struct Chip<C: Cells> {
     cells: C,
     size: SectorSize,
+    // two memories, as they are handed in and given back: a dock copies the bytes alone
     bytes: Vec<u8>,
     lives: Vec<u32>,
     ghost bytes_fit: { ((i : ℕ) → slice_index bytes.items i < 256) },

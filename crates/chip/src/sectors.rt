@@ -1,5 +1,5 @@
 // A chip as a store of sectors.
-ghost use Rattle.std.specs.Prelude.{◌≡◌, ◌-◌, ◌<◌, length, IfOk, if◌then◌else◌, nat_lt};
+ghost use Rattle.std.specs.Prelude.{◌≡◌, length, IfOk};
 ghost use Rattle.refusal.specs.Refusals.{answer};
 ghost use Rattle.store.specs.Stores.{after_write, write_answer};
 ghost use Rattle.chip.specs.Meant.{bytes_written, lives_written, meant, placed, place_reply, sectors_of};
@@ -11,18 +11,6 @@ use store::Store;
 
 // The most sectors that a chip has, however much memory it is handed.
 const MOST_SECTORS: usize = 2048;
-
-// What a write leaves of a life; 7 where nothing is left.
-fn spent(life: u32) -> Result<u32, Refusal>
-    ensures reply { answer result ≡ (if nat_lt 0 life then 0 else 7) }
-    ensures value { IfOk result (λ left. (0 < life) × (left ≡ life - 1)) }
-{
-    if life == 0 {
-        Err(Refusal::Worn)
-    } else {
-        Ok(life - 1)
-    }
-}
 
 impl<C: Cells> Chip<C> {
     fn sectors(&self) -> usize
@@ -57,10 +45,12 @@ impl<C: Cells> Store for Chip<C> {
         self.size.bytes()
     }
 
+    #[tactic(auto, using(store::proofs::Placed::in_places))]
     fn count(&self) -> usize {
         self.sectors()
     }
 
+    #[tactic(auto, using(store::proofs::Placed::in_places))]
     fn life(&self, sector: usize) -> Result<u32, Refusal> {
         if sector >= self.sectors() {
             return Err(Refusal::Absent);
@@ -68,6 +58,7 @@ impl<C: Cells> Store for Chip<C> {
         Ok(self.lives[sector])
     }
 
+    #[tactic(auto, using(store::proofs::Placed::in_places))]
     fn read(&self, sector: usize, buffer: &mut [u8]) -> Result<(), Refusal> {
         let at = self.place(sector, buffer.len())?;
         buffer.copy_from_slice(&self.bytes[at..at + buffer.len()]);
@@ -75,6 +66,7 @@ impl<C: Cells> Store for Chip<C> {
     }
 
     // The whole memory after a write is pinned too.
+    #[tactic(auto, using(store::proofs::Placed::in_places))]
     fn write(&mut self, sector: usize, buffer: &[u8]) -> Result<(), Refusal>
         ensures reply { answer result ≡ write_answer (meant self.old) sector (length buffer.now) }
         ensures after { meant self.new ≡ after_write (meant self.old) sector buffer.now }
@@ -83,7 +75,7 @@ impl<C: Cells> Store for Chip<C> {
         ensures lives { self.new.lives.items ≡ lives_written self.old sector buffer.now }
     {
         let at = self.place(sector, buffer.len())?;
-        let left = spent(self.lives[sector])?;
+        let left = self.lives[sector].checked_sub(1).ok_or(Refusal::Worn)?;
         self.cells
             .rewrite(&mut self.bytes[at..at + buffer.len()], buffer);
         self.lives[sector] = left;

@@ -1,17 +1,13 @@
 -- What a chip answers to a call, from its place and its life.
-use Rattle.std.proofs.Common.{◌≡◌, ℕ, ◌+◌, ◌-◌, ◌*◌, ◌<◌, ◌≤◌, Bool, true, false, cond, eqb, ltb, List, length, get_or, take, drop, set, sym, refl, ap, ◌∙◌, subst, arith, length-append, length-drop, length-take}
+use Rattle.std.proofs.Common.{◌≡◌, ℕ, ◌+◌, ◌-◌, ◌*◌, ◌<◌, ◌≤◌, cond, ltb, List, length, get_or, take, drop, set, sym, refl, ap, ◌∙◌, subst, arith, length-append, length-drop, length-take}
 use borrow.Rule.Slice.PartMut.{put_mid}
-use Rattle.std.proofs.lemmas.Bool.{lt-ltb, eq-eqb, cond-true}
-use Rattle.store.specs.Stores.{Meaning, count, life, read_answer, after_read}
+use Rattle.std.proofs.lemmas.Bool.{eq-eqb, cond-true}
+use Rattle.std.proofs.lemmas.Bool.Decides.{nat_tests}
+use Rattle.store.specs.Stores.{Meaning, count, write_answer}
 use Rattle.chip_math.specs.Chips.{chip_count, chip, overlaid, rewritten}
 use Rattle.chip_math.specs.Places.{place_answer, Placed}
 use Rattle.chip_math.proofs.Chipped.{count_is, in_bytes, in_lives, life_is}
-use Rattle.chip_math.proofs.Written.{Unread, unread, read_done, Refused, refused, Written, write_done}
-
-sooner : (there long alive : Bool) → (◌≡◌ {A = ℕ} (cond there (cond long 0 2) 3) 0 → ⊥) → ◌≡◌ {A = ℕ} (cond there (cond long (cond alive 0 7) 2) 3) (cond there (cond long 0 2) 3)
-sooner true true alive f = absurd (f refl)
-sooner true false alive f = refl
-sooner false long alive f = refl
+use Rattle.chip_math.proofs.Written.{Written, write_done}
 
 module _ (size : ℕ) (bytes lives : List ℕ) (k : ℕ) where
   abbrev m : Meaning
@@ -20,46 +16,23 @@ module _ (size : ℕ) (bytes lives : List ℕ) (k : ℕ) where
   abbrev n : ℕ
   n = chip_count size bytes lives
 
-  pub read_place : (len : ℕ) → read_answer m k len ≡ place_answer size bytes lives k len
-  read_place len = ap (λ (c : ℕ). cond (ltb k c) (cond (eqb len size) 0 2) 3) (count_is size bytes lives)
-
   pub placed : (len : ℕ) → k < n → len ≡ size → Placed size bytes lives k len (k * size)
   placed len h e =
       let r = in_bytes size bytes lives k h in
       record { there = h; long = e; begins = refl; in_bytes = omega arith; in_lives = in_lives size bytes lives k h }
 
-  -- a call that is refused for its place
-  pub unread_place : (a : ℕ) (xs : List ℕ) → a ≡ place_answer size bytes lives k (length xs) → (a ≡ 0 → ⊥) → Unread size bytes lives k a xs
-  unread_place a xs e f = unread size bytes lives k a xs (read_place (length xs) ∙ sym e) (omega arith)
+  -- a write that is refused for its place
+  pub refused_place : (a n : ℕ) → a ≡ place_answer size bytes lives k n → (a ≡ 0 → ⊥) → a ≡ write_answer m k n
+  refused_place a n e f = let count = count_is size bytes lives in grind (arith, nat_tests)
 
-  pub refused_place : (a : ℕ) (xs : List ℕ) → a ≡ place_answer size bytes lives k (length xs) → (a ≡ 0 → ⊥) → Refused size bytes lives k a xs
-  refused_place a xs e f =
-      refused size bytes lives k a xs
-      (ap (λ (c : ℕ). cond (ltb k c) (cond (eqb (length xs) size) (cond (ltb 0 (life m k)) 0 7) 2) 3) (count_is size bytes lives)
-      ∙ sooner (ltb k n) (eqb (length xs) size) (ltb 0 (life m k)) (λ z. f (e ∙ z))
-      ∙ sym e)
-      (omega arith)
-
-  -- a call that has its place
+  -- a write that has its place
   module _ (xs : List ℕ) (place : ℕ) (p : Placed size bytes lives k (length xs) place) where
-    pub read_placed : (ys : List ℕ) → ys ≡ take (place + length xs - place) (drop place bytes) → record { reply : 0 ≡ read_answer m k (length xs); bytes : ys ≡ after_read m k xs }
-    read_placed ys is =
-        let r = read_done size bytes lives k xs p.there p.long in
-        let e : place + length xs - place ≡ size = omega (arith, p.long) in
-        record {
-          reply = r.reply;
-          bytes = is ∙ ap (λ (j : ℕ). take j (drop place bytes)) e ∙ ap (λ (j : ℕ). take size (drop j bytes)) p.begins ∙ r.bytes;
-        }
-
-    pub refused_worn : (a : ℕ) → a ≡ cond (ltb 0 (get_or lives k 0)) 0 7 → (a ≡ 0 → ⊥) → Refused size bytes lives k a xs
+    pub refused_worn : (a : ℕ) → a ≡ cond (ltb 0 (get_or lives k 0)) 0 7 → (a ≡ 0 → ⊥) → a ≡ write_answer m k (length xs)
     refused_worn a e f =
         let there : k < count m = omega (arith, count_is size bytes lives, p.there) in
-        refused size bytes lives k a xs
-        (cond-true _ _ 3 (lt-ltb k (count m) there)
-        ∙ cond-true _ _ 2 (eq-eqb (length xs) size p.long)
-        ∙ ap (λ (x : ℕ). cond (ltb 0 x) 0 7) (life_is size bytes lives k p.there)
-        ∙ sym e)
-        (omega arith)
+        let long = p.long in
+        let life = life_is size bytes lives k p.there in
+        grind (arith, nat_tests)
 
     pub write_placed : (left : ℕ) → 0 < get_or lives k 0 → left ≡ get_or lives k 0 - 1 → Written size bytes lives k xs (overlaid place bytes xs) (set lives k left)
     write_placed left alive e =

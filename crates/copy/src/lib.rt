@@ -2,30 +2,12 @@
 #![tactic(auto)]
 
 ghost use Rattle.std.specs.Prelude.{◌≡◌, length, replicate};
-ghost use Rattle.copy.specs.Copying.{after_copy, copy_answer, copy_tests};
+ghost use Rattle.copy.specs.Copying.{after_copy, copy_answer};
 ghost use Rattle.refusal.specs.Refusals.{answer};
 
 use refusal::Refusal;
 use store::{Store, check_sector, check_write};
 use wipe::{Wipe, lend};
-
-// The tests of a copy, in their order: 3 for k, 3 for j, 2 for the sizes and the working bytes, 7 for j.
-fn check_copy<F: Store, T: Store>(
-    from: &F,
-    k: usize,
-    to: &T,
-    j: usize,
-    len: usize,
-) -> Result<(), Refusal>
-    ensures { answer result ≡ copy_tests (F.Store.meaning from.now) k (T.Store.meaning to.now) j len 0 }
-{
-    check_sector(from, k)?;
-    check_sector(to, j)?;
-    if from.size() != to.size() {
-        return Err(Refusal::Buffer);
-    }
-    check_write(to, j, len)
-}
 
 // Reads sector k of one store and writes it to sector j of another through the working bytes, which are all zero at every end. Tests, in
 // their order: 3 for k, 3 for j, 2 for the sizes and the working bytes, 7 for j, 9.
@@ -41,7 +23,12 @@ pub fn copy_sector<F: Store, T: Store>(
     ensures bytes { work.new ≡ replicate (length work.old) 0 }
 {
     let guard = Wipe(work);
-    check_copy(from, k, to, j, guard.0.len())?;
+    check_sector(from, k)?;
+    check_sector(to, j)?;
+    if from.size() != to.size() {
+        return Err(Refusal::Buffer);
+    }
+    check_write(to, j, guard.0.len())?;
     let bytes = lend(guard.0);
     from.read(k, bytes)?;
     to.write(j, bytes)

@@ -60,10 +60,12 @@ impl<S: Store, M: Mode> Store for Layer<S, M> {
         self.store.size()
     }
 
+    #[tactic(auto, using(store::proofs::Placed::in_places))]
     fn count(&self) -> usize {
         self.store.count()
     }
 
+    #[tactic(auto, using(store::proofs::Placed::in_places))]
     fn life(&self, sector: usize) -> Result<u32, Refusal> {
         self.store.life(sector)
     }
@@ -72,14 +74,10 @@ impl<S: Store, M: Mode> Store for Layer<S, M> {
         read_and_open(&self.store, &self.mode, sector, buffer)
     }
 
+    #[tactic(auto, using(store::proofs::Placed::in_places))]
     fn write(&mut self, sector: usize, buffer: &[u8]) -> Result<(), Refusal> {
-        let size = buffer.len();
-        check_write(&self.store, sector, size)?;
-        let mut work = self.scratch.copied();
-        let part = &mut work[0..size];
-        part.copy_from_slice(buffer);
-        let outcome = seal_and_write(&mut self.store, &self.mode, sector, part);
-        self.scratch.keep(work);
-        outcome
+        check_write(&self.store, sector, buffer.len())?;
+        let part = self.scratch.filled(buffer);
+        seal_and_write(&mut self.store, &self.mode, sector, part)
     }
 }

@@ -18,7 +18,7 @@ use window::Window;
 
 // Writes one sector through a sealing layer over a window over a chip, reads it again, and gives the chip back. The calls on the pile go through
 // a function that knows nothing but that it is a store; all the same the chip's whole memory is known at the end, also outside the window and
-// beyond the last sector.
+// beyond the last sector. The chip comes back beside the outcome, since it is owed after a refusal too.
 pub fn write_through<C: Cells, M: Mode + Drop>(
     chip: Chip<C>,
     first: usize,

@@ -17,15 +17,14 @@ use refusal::Refusal;
 pub use scratch::Scratch;
 use store::Store;
 
-// Opens a sector in place, under its number; 9 where the mode turns its length down.
+// Opens a sector in place, under its number; 9 where the mode turns its length down. Opening and sealing stay a pair of calls, as in the mode's trait;
+// mode, sector and bytes stay three arguments, since a struct for them would be made at each call and taken apart in it.
 pub fn open_sector<M: Mode>(mode: &M, sector: usize, bytes: &mut [u8]) -> Result<(), Refusal>
     ensures reply { answer result ≡ layer_answer (length bytes.old) }
     ensures bytes { bytes.new ≡ opened_or (M.Mode.sealing mode.now) (tweak sector) bytes.old }
 {
-    match mode.open(sector_tweak(sector as u64), bytes) {
-        Ok(()) => Ok(()),
-        Err(_) => Err(Refusal::Layer),
-    }
+    mode.open(sector_tweak(sector as u64), bytes)
+        .map_err(|_| Refusal::Layer)
 }
 
 // Seals a sector in place, under its number; 9 where the mode turns its length down.
@@ -33,13 +32,12 @@ pub fn seal_sector<M: Mode>(mode: &M, sector: usize, bytes: &mut [u8]) -> Result
     ensures reply { answer result ≡ layer_answer (length bytes.old) }
     ensures bytes { bytes.new ≡ sealed_or (M.Mode.sealing mode.now) (tweak sector) bytes.old }
 {
-    match mode.seal(sector_tweak(sector as u64), bytes) {
-        Ok(()) => Ok(()),
-        Err(_) => Err(Refusal::Layer),
-    }
+    mode.seal(sector_tweak(sector as u64), bytes)
+        .map_err(|_| Refusal::Layer)
 }
 
 // Reads a sealed sector and opens it in the buffer; 3, 2, 9.
+#[tactic(auto, using(store::proofs::Placed::in_places))]
 pub fn read_and_open<S: Store, M: Mode>(
     store: &S,
     mode: &M,

@@ -10,6 +10,13 @@ pub length-by_place : {X Y : Type 0} (f : ℕ → X → Y) (i : ℕ) (xs : List 
 length-by_place f i [] = refl
 length-by_place f i (x ∷ xs) = ap suc (length-by_place f (suc i) xs)
 
+-- an element of a list that is made by a function of the place
+pub get_or_counted : {X : Type 0} (f : ℕ → X) (n k : ℕ) (d : X) → k < n → get_or (map f (range_with_len 0 n)) k d ≡ f k
+get_or_counted f n k d h = get_or-map-range_with_len f 0 n k k d h (zero-add k)
+
+-- the elements of such lists, and how many they are
+pub ruleset in_places = (length-by_place, length-map-range_with_len, get_or_counted)
+
 pub get_or_by_place : {X Y : Type 0} (f : ℕ → X → Y) (i : ℕ) (xs : List X) (k j : ℕ) (d : X) (e : Y) → k < length xs → i + k ≡ j → get_or (by_place f i xs) k e ≡ f j (get_or xs k d)
 get_or_by_place f i [] k j d e h a = absurd (not-suc-le-zero h)
 get_or_by_place f i (x ∷ xs) zero j d e h a = ap (λ (n : ℕ). f n x) (sym (add-zero i) ∙ a)

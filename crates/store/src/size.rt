@@ -8,14 +8,14 @@ use mode::is_sector_size;
 use refusal::Refusal;
 
 // A multiple of 16 from 32 to 4,096: no other can be made.
-#[derive(Clone, Copy)]
+#[derive(Clone, Copy, Debug, PartialEq, Eq)]
 pub struct SectorSize {
     bytes: usize,
     ghost sized: { sector_size bytes ≡ true },
 }
 
 impl SectorSize {
-    // The size of that many bytes; 4 where it is no sector size.
+    // The size of that many bytes; 4 where it is no sector size. A maker and its reader are `new` and `bytes`, as NonZero has `new` and `get`.
     pub fn new(bytes: usize) -> Result<SectorSize, Refusal>
         ensures reply { answer result ≡ size_answer bytes }
         ensures value { IfOk result (λ s. s.bytes ≡ bytes) }

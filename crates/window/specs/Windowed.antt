@@ -1,9 +1,9 @@
 -- The places of a window rise within the sectors below, so its calls are those of a part.
-use Rattle.std.specs.Prelude.{◌≡◌, ℕ, ◌+◌, ◌<◌, ◌≤◌, Bool, true, false, cond, List, length, ◌==◌, ◌≢◌, nat_lt, refl}
-use Rattle.std.proofs.Common.{sym, ap, ◌∙◌, ⊎_elim, arith, length-set}
-use Rattle.std.proofs.lemmas.Bool.{cases_lt, lt-ltb, le-ltb, ltb-true, cond-true, cond-false}
-use Rattle.store.specs.Stores.{Meaning, Sound, count, life, put, life_answer, read_answer, write_answer, after_read, after_write}
-use Rattle.store.proofs.Tests.{absent_read, absent_write, read_keeps, write_keeps}
+use Rattle.std.specs.Prelude.{◌≡◌, ℕ, ◌+◌, ◌<◌, ◌≤◌, List, length, ◌≢◌}
+use Rattle.std.proofs.Common.{sym, ap, ◌∙◌, arith}
+use Rattle.std.proofs.lemmas.Bool.Decides.{nat_tests}
+use Rattle.std.proofs.lemmas.Grind.{common_steps}
+use Rattle.store.specs.Stores.{Meaning, Sound, count, life, life_answer, read_answer, write_answer, after_read, after_write}
 use Rattle.places.specs.Parts.{Rising, part}
 use Rattle.places.proofs.Parted as parted
 use Rattle.window.specs.Windows.{first_of, count_of, place_answer, window}
@@ -21,43 +21,32 @@ module _ (m : Meaning) (f c : ℕ) where
   module _ (k : ℕ) where
     -- a sector that is not placed is not there
     pub absent : (a : ℕ) → (a ≢ 0) → a ≡ place_answer (count m) f c k → record { far : count_of (count m) f c ≤ k; three : a ≡ 3 }
-    absent a no-0 e =
-        ⊎_elim
-        (λ (l : k < count_of (count m) f c). absurd (no-0 (e ∙ cond-true _ 0 3 (lt-ltb k _ l))))
-        (λ (l : count_of (count m) f c ≤ k). record { far = l; three = e ∙ cond-false _ 0 3 (le-ltb k _ l) })
-        (cases_lt k (count_of (count m) f c))
+    absent a no-0 e = record { far = grind (arith, nat_tests); three = grind (arith, nat_tests) }
+
+    -- and a call that tests for it first refuses it so
+    pub read_refused : (a n : ℕ) → (a ≡ 0 → ⊥) → a ≡ place_answer (count m) f c k → a ≡ read_answer (window m f c) k n
+    read_refused a n no-0 e = let all = window_count in grind (arith, nat_tests)
 
     -- one that is placed is
     pub there : 0 ≡ place_answer (count m) f c k → k < count_of (count m) f c
-    there e = ltb-true k (count_of (count m) f c) (yes (nat_lt k (count_of (count m) f c)) (sym e))
-      where
-        yes : (b : Bool) → ◌≡◌ {A = ℕ} (cond b 0 3) 0 → b ≡ true
-        yes true e = refl
-        yes false e = absurd (omega arith)
+    there e = grind (arith, nat_tests)
 
     module _ (h : count_of (count m) f c ≤ k) where
-      far : count (window m f c) ≤ k
-      far = let e = window_count in omega arith
-
       pub life_absent : 3 ≡ life_answer (window m f c) k
-      life_absent = sym (cond-false _ 0 3 (le-ltb k (count (window m f c)) far))
+      life_absent = let e = window_count in grind (arith, nat_tests)
 
       pub read_absent : (xs : List ℕ) → record { reply : 3 ≡ read_answer (window m f c) k (length xs); bytes : xs ≡ after_read (window m f c) k xs }
-      read_absent xs =
-          let e = absent_read (window m f c) k (length xs) far in
-          record { reply = sym e; bytes = sym (read_keeps (window m f c) k xs (λ z. omega arith)) }
+      read_absent xs = let e = window_count in record { reply = grind (arith, nat_tests); bytes = grind (arith, nat_tests) }
 
       pub write_absent : (xs : List ℕ) → record { reply : 3 ≡ write_answer (window m f c) k (length xs); after : window m f c ≡ after_write (window m f c) k xs }
-      write_absent xs =
-          let e = absent_write (window m f c) k (length xs) far in
-          record { reply = sym e; after = sym (write_keeps (window m f c) k xs (λ z. omega arith)) }
+      write_absent xs = let e = window_count in record { reply = grind (arith, nat_tests); after = grind (arith, nat_tests) }
 
     module _ (s : Sound m) (j : ℕ) (at : j ≡ first_of (count m) f + k) (h : k < count_of (count m) f c) where
       abbrev p : ℕ → ℕ
       p i = first_of (count m) f + i
 
       pub life_there : life_answer m j ≡ life_answer (window m f c) k
-      life_there = ap (life_answer m) at ∙ parted.part_life_answer m p (count_of (count m) f c) s (rising (count m) f c) k h
+      life_there = let e = window_count in let below = (rising (count m) f c).within k h in grind (arith, nat_tests)
 
       pub life_is : life m j ≡ life (window m f c) k
       life_is = ap (life m) at ∙ sym (parted.part_life m p (count_of (count m) f c) k h)
@@ -71,11 +60,7 @@ module _ (m : Meaning) (f c : ℕ) where
 
       -- a write below leaves the count, and so the cuts
       count_stays : (xs : List ℕ) → count (after_write m j xs) ≡ count m
-      count_stays xs = go (write_answer m j (length xs) == 0)
-        where
-          go : (b : Bool) → count (cond b (put m j xs) m) ≡ count m
-          go true = length-set m.sectors j xs
-          go false = refl
+      count_stays xs = grind (arith, common_steps)
 
       pub write_there : (xs : List ℕ) (m' : Meaning) → m' ≡ after_write m j xs
           → record { reply : write_answer m j (length xs) ≡ write_answer (window m f c) k (length xs); after : window m' f c ≡ after_write (window m f c) k xs }

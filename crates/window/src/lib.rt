@@ -84,21 +84,25 @@ impl<S: Store> Store for Window<S> {
         self.store.size()
     }
 
+    #[tactic(auto, using(store::proofs::Placed::in_places))]
     fn count(&self) -> usize {
         let (_, count) = self.bounds();
         count
     }
 
+    #[tactic(auto, using(store::proofs::Placed::in_places))]
     fn life(&self, sector: usize) -> Result<u32, Refusal> {
         let place = self.place(sector)?;
         self.store.life(place)
     }
 
+    #[tactic(auto, using(store::proofs::Placed::in_places))]
     fn read(&self, sector: usize, buffer: &mut [u8]) -> Result<(), Refusal> {
         let place = self.place(sector)?;
         self.store.read(place, buffer)
     }
 
+    #[tactic(auto, using(store::proofs::Placed::in_places))]
     fn write(&mut self, sector: usize, buffer: &[u8]) -> Result<(), Refusal> {
         let place = self.place(sector)?;
         self.store.write(place, buffer)

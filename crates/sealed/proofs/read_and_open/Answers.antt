@@ -1,25 +1,28 @@
-use Rattle.std.proofs.Common.{ap, ◌∙◌}
-use Rattle.std.proofs.lemmas.Result.{err_from_is_err_and}
+use Rattle.std.proofs.Common.{length, ◌∙◌}
 use Rattle.std.proofs.lemmas.Bool.{cond-true}
-use Rattle.refusal.specs.Refusals.{answer, number_of}
-use Rattle.refusal.proofs.Numbers.{number_not_0}
 use Rattle.mode.specs.Modes.{permitted}
 use Rattle.mode.proofs.Whole.{size_permitted}
 use Rattle.store.specs.Stores.Rest.{functions}
-use Rattle.sealed.proofs.Calls.{read_refused, read_opened}
+use Rattle.refusal.proofs.Numbers.{number_not_0}
+use Rattle.store.proofs.Tests.{passed_on}
+use Rattle.sealed.proofs.Calls.{read_opened}
+use Rattle.sealed.proofs.Layers.{layer_read, refused_read}
 use Rattle.sealed.proofs.read_and_open.Goals as goal
 
-pub returns-in_err-read : goal.returns-in_err-read
-returns-in_err-read g c =
-    let m = g.S.Store.meaning c.args.store.now in
-    let s = g.M.Mode.sealing c.args.mode.now in
-    let sound = g.met.S.Store.sound c.args.store.now in
-    let was = c.in_err-read.ensures in
-    let r =
-    read_refused m sound (λ _. s) (λ _. g.met.M.Mode.lawful c.args.mode.now) (permitted m.size) (size_permitted m.size sound.sized) (functions s) c.args.sector
-    _ c.args.buffer.now c.read.new.buffer (number_not_0 c.in_err-read.field-0.0) was.reply was.bytes in
-    let err = err_from_is_err_and c.from_residual.result c.from_residual.ensures.1 in
-    record { reply = ap answer err.1 ∙ ap number_of err.2 ∙ r.reply; bytes = r.bytes }
+pub returns-in_err-read-clause-reply : goal.returns-in_err-read-clause-reply
+returns-in_err-read-clause-reply g c =
+    let store = c.args.store.now in
+    let mode = c.args.mode.now in
+    passed_on c.from_residual.result c.in_err-read.field-0.0 c.from_residual.ensures.1 ∙ c.in_err-read.ensures.reply
+    ∙ layer_read (g.S.Store.meaning store) (g.M.Mode.sealing mode) (g.met.S.Store.sound store) (g.met.M.Mode.lawful mode) c.args.sector (length c.args.buffer.now)
+
+pub returns-in_err-read-clause-bytes : goal.returns-in_err-read-clause-bytes
+returns-in_err-read-clause-bytes g c =
+    let store = c.args.store.now in
+    let mode = c.args.mode.now in
+    let e = c.in_err-read.field-0.0 in
+    refused_read (g.S.Store.meaning store) (g.M.Mode.sealing mode) (g.met.S.Store.sound store) (g.met.M.Mode.lawful mode) c.args.sector
+    _ c.args.buffer.now _ (number_not_0 e) c.in_err-read.ensures.reply c.in_err-read.ensures.bytes
 
 pub returns : goal.returns
 returns g c =

@@ -1,18 +1,6 @@
-use Rattle.std.proofs.Common.{ap, ◌∙◌}
-use Rattle.std.proofs.lemmas.Result.{err_from_is_err_and}
-use Rattle.refusal.specs.Refusals.{answer, number_of}
-use Rattle.refusal.proofs.Numbers.{number_not_0}
-use Rattle.window.specs.Windowed.{absent, there, write_absent, write_there}
+use Rattle.std.proofs.Common.{◌∙◌}
+use Rattle.window.specs.Windowed.{there, write_there}
 use Rattle.window.proofs.WindowStore.write.Goals as goal
-
-pub returns-in_err-place : goal.returns-in_err-place
-returns-in_err-place g c =
-    let w = c.args.self.now in
-    let m = g.S.Store.meaning w.store in
-    let a = absent m w.first w.count c.args.sector _ (number_not_0 c.in_err-place.field-0.0) c.in_err-place.ensures.reply in
-    let r = write_absent m w.first w.count c.args.sector a.far c.args.buffer.now in
-    let err = err_from_is_err_and c.from_residual.result c.from_residual.ensures.1 in
-    record { reply = ap answer err.1 ∙ ap number_of err.2 ∙ a.three ∙ r.reply; after = r.after }
 
 pub returns : goal.returns
 returns g c =
