@@ -14,7 +14,8 @@ pub const SECTOR: usize = 512;
 
 pub const ROUND: usize = 1024;
 
-// Seals the two sectors, each under its number. No length is refused, since 512 bytes are a sector.
+// Seals the two sectors, each under its number. No length is refused, since 512 bytes are a sector. Sealing and opening stay two calls, as in the
+// trait: one over both would be handed the mode's call, and its promise would stand on what that call answers.
 pub fn seal_round<M: Mode>(mode: &M, image: &mut [u8; 1024]) -> Result<(), Refusal>
     ensures reply { answer result ≡ 0 }
     ensures bytes { image.new ≡ copy (M.Mode.sealing mode.now) image.old }

@@ -1,25 +1,28 @@
--- What an accepted text and two accepted cards come to.
-use Rattle.std.proofs.Common.{◌≡◌, ℕ, Bool, true, false, cond, ◌&&◌, eqb, List, length, sym, refl, ap, ◌∙◌, arith}
+-- What two accepted cards come to, and that a cipher's tasks are those of its name.
+use Rattle.std.proofs.Common.{◌≡◌, ℕ, List, length, ap, ap₂, arith}
 use Rattle.std.proofs.lemmas.Bool.Decides.{nat_tests}
 use Rattle.block.specs.Blocks.{to_block, xor_bytes}
-use Rattle.mode.specs.Modes.{Sealing, permitted, mode_answer, sealed_or, opened_or}
-use Rattle.kat.specs.declared.request.Way.{Way}
-use Rattle.kat.specs.Outcomes.{Outcome, a_block, a_text, refused, turned, text_outcome, cards_outcome}
-
-by_test : (b : Bool) (w : Way) (s o x : List ℕ) → ◌≡◌ {A = ℕ} 0 (cond b 0 1) → a_text (turned w (cond b s x) (cond b o x)) ≡ cond b (a_text (turned w s o)) (refused 1)
-by_test true w s o x e = refl
-by_test false w s o x e = let no : ⊥ = omega arith in absurd no
-
-pub accepted : (m : Sealing) (w : Way) (t : ℕ) (xs : List ℕ) → 0 ≡ mode_answer (length xs) → a_text (turned w (sealed_or m t xs) (opened_or m t xs)) ≡ text_outcome m w t xs
-accepted m w t xs e = by_test (permitted (length xs)) w (m.sealed t xs) (m.opened t xs) xs e
+use Rattle.cipher.specs.declared.Cipher.{Ghosts as CipherMeaning}
+use Rattle.keys.specs.Cards.{whole_key}
+use Rattle.keys.specs.declared.WholeKey.{WholeKey}
+use Rattle.mode.specs.Modes.{Sealing}
+use Rattle.xcb.specs.Xcb.{xcb}
+use Rattle.xts.specs.Xts.{xts}
+use Rattle.kat.specs.declared.request.CipherName.{CipherName}
+use Rattle.kat.specs.declared.request.Request.TheVariants.{Cipher}
+use Rattle.kat.specs.declared.request.Task.{Task}
+use Rattle.kat.specs.declared.request.Task.TheVariants.{Block, Xcb, Xts}
+use Rattle.kat.specs.Outcomes.{a_block, cards_outcome, opened, outcome, sealed, task_outcome, text_outcome, turned, xcb_of, xts_of}
 
 pub laid : (a b : List ℕ) (v : ℕ) → length a ≡ 16 → length b ≡ 16 → (to_block a ≡ to_block b → ⊥) → v ≡ to_block (xor_bytes a b) → a_block v ≡ cards_outcome a b
-laid a b v la lb ne e =
-    let p : eqb (length a) 16 ≡ true = grind (arith, nat_tests) in
-    let q : eqb (length b) 16 ≡ true = grind (arith, nat_tests) in
-    let r : eqb (to_block a) (to_block b) ≡ false = grind (arith, nat_tests) in
-    let rest : Outcome = a_block (to_block (xor_bytes a b)) in
-    ap a_block e
-    ∙ ap (λ (x : Bool). cond x (refused 6) rest) (sym r)
-    ∙ ap (λ (x : Bool). cond (true && x) (cond (eqb (to_block a) (to_block b)) (refused 6) rest) (refused 5)) (sym q)
-    ∙ ap (λ (x : Bool). cond (x && eqb (length b) 16) (cond (eqb (to_block a) (to_block b)) (refused 6) rest) (refused 5)) (sym p)
+laid a b v la lb ne e = grind (arith, nat_tests)
+
+-- a cipher's tasks are those of its name, where its functions are, and the modes over it
+module _ {C : Type 0} (m : CipherMeaning C WholeKey) (c : CipherName)
+    (s : (k n : ℕ) → m.sealed (whole_key k) n ≡ sealed c k n) (o : (k n : ℕ) → m.opened (whole_key k) n ≡ opened c k n)
+    (x : (a b : ℕ) → xts m (whole_key a) (whole_key b) ≡ xts_of c a b) (y : (k : ℕ) → xcb m (whole_key k) ≡ xcb_of c k) where
+  pub same_task : (t : Task) → task_outcome m t ≡ outcome (Cipher c t)
+  unfolding task_outcome
+  same_task (Block k n w) = ap₂ (λ (a b : ℕ). a_block (turned w a b)) (s k n) (o k n)
+  same_task (Xts a b p) = ap (λ (z : Sealing). text_outcome z p) (x a b)
+  same_task (Xcb k p) = ap (λ (z : Sealing). text_outcome z p) (y k)

@@ -13,35 +13,30 @@ mod answer;
 mod request;
 
 use answer::{Reply, carry_out};
-use lines::take_line;
+use lines::Lines;
 use request::{Unread, parse};
 use std::alloc::{AllocError, Global};
 use std::io::Read;
 
 // The line that answers a line.
 fn answer_line(heap: Global, line: &[u8]) -> Result<String, AllocError> {
-    let request = match parse(heap, line) {
-        Ok(request) => request,
-        Err(Unread::Malformed) => return String::from_str(heap, "malformed"),
-        Err(Unread::Memory) => return Err(AllocError),
-    };
-    match carry_out(request) {
-        Reply::Block(block) => hexadecimal::encode(heap, &block::to_bytes(block)),
-        Reply::Text(bytes) => hexadecimal::encode(heap, &bytes),
-        Reply::Refused(refusal) => {
+    match parse(heap, line).map(carry_out) {
+        Ok(Ok(Reply::Block(block))) => hexadecimal::encode(heap, &block::to_bytes(block)),
+        Ok(Ok(Reply::Text(bytes))) => hexadecimal::encode(heap, &bytes),
+        Ok(Err(refusal)) => {
             let number = refusal.number();
             format!(in heap; "refused {number}")
         }
+        Err(Unread::Malformed) => String::from_str(heap, "malformed"),
+        Err(Unread::Memory(error)) => Err(error),
     }
 }
 
 fn run(rt: &HostRuntime) -> anyhow::Result<()> {
     let mut input = Vec::new(rt.alloc());
     rt.stdin().read_to_end(&mut input)?;
-    let mut rest = input.as_slice();
-    while let Some((line, after)) = take_line(rest) {
+    for line in Lines::new(&input) {
         rt.println(answer_line(rt.alloc(), line)?)?;
-        rest = after;
     }
     Ok(())
 }

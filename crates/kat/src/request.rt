@@ -1,8 +1,8 @@
 // What a line asks for.
-ghost use Rattle.std.specs.Prelude.{◌≤◌, length};
-
-use block::{Block, from_bytes, load};
+use block::{BLOCK, Block, from_bytes};
 use std::alloc::{AllocError, AllocFailed, Global};
+use std::array::TryFromSliceError;
+use std::str::{FromStr, Split, Utf8Error};
 
 #[derive(Clone, Copy)]
 pub enum CipherName {
@@ -16,29 +16,36 @@ pub enum Way {
     Open,
 }
 
+// A text that goes through a mode.
 #[derive(Drop)]
-pub enum Request {
-    Cipher {
-        cipher: CipherName,
-        way: Way,
+pub struct Passage {
+    pub tweak: Block,
+    pub text: Vec<u8>,
+    pub way: Way,
+}
+
+// What a cipher does, alone or in a mode.
+#[derive(Drop)]
+pub enum Task {
+    Block {
         key: Block,
         block: Block,
+        way: Way,
     },
     Xts {
-        cipher: CipherName,
-        way: Way,
         first: Block,
         second: Block,
-        tweak: Block,
-        text: Vec<u8>,
+        passage: Passage,
     },
     Xcb {
-        cipher: CipherName,
-        way: Way,
         key: Block,
-        tweak: Block,
-        text: Vec<u8>,
+        passage: Passage,
     },
+}
+
+#[derive(Drop)]
+pub enum Request {
+    Cipher(CipherName, Task),
     Product(Block, Block),
     Hash(Block, Vec<Block>),
     Double(Block),
@@ -49,181 +56,154 @@ pub enum Request {
 #[derive(Clone, Copy)]
 pub enum Unread {
     Malformed,
-    Memory,
+    Memory(AllocError),
 }
 
 impl From<AllocError> for Unread {
-    fn from(_: AllocError) -> Unread {
-        Unread::Memory
+    fn from(error: AllocError) -> Unread {
+        Unread::Memory(error)
     }
 }
 
 impl<T: Drop> From<AllocFailed<T>> for Unread {
-    fn from(_: AllocFailed<T>) -> Unread {
-        Unread::Memory
+    fn from(failed: AllocFailed<T>) -> Unread {
+        Unread::Memory(failed.into())
     }
 }
 
-// The words of a line, one space between two; None where no word is left.
-#[derive(Drop)]
-struct Words<'a> {
-    rest: Option<&'a [u8]>,
+// No word of a request has a character beyond ASCII.
+impl From<Utf8Error> for Unread {
+    fn from(_: Utf8Error) -> Unread {
+        Unread::Malformed
+    }
 }
 
-// The place of the first space, or the length where there is none.
-fn word_end(s: &[u8]) -> usize
-    ensures { result ≤ length s.now }
-{
-    for (i, b) in s.iter().enumerate() {
-        if *b == b' ' {
-            return i;
+impl From<TryFromSliceError> for Unread {
+    fn from(_: TryFromSliceError) -> Unread {
+        Unread::Malformed
+    }
+}
+
+impl FromStr for CipherName {
+    type Err = Unread;
+
+    fn from_str(name: &str) -> Result<CipherName, Unread> {
+        match name {
+            "aes128" => Ok(CipherName::Aes128),
+            "speck" => Ok(CipherName::Speck),
+            _ => Err(Unread::Malformed),
         }
     }
-    s.len()
 }
 
-// The first word, and what follows the space behind it.
-fn take_word(s: &[u8]) -> (&[u8], Option<&[u8]>) {
-    let end = word_end(s);
-    if end == s.len() {
-        return (s, None);
-    }
-    (&s[0..end], Some(&s[end + 1..]))
+// The words of a line, one space between two.
+#[derive(Drop)]
+struct Words<'a> {
+    heap: Global,
+    words: Split<'a, char>,
 }
 
 impl<'a> Words<'a> {
-    fn next(&mut self) -> Option<&'a [u8]> {
-        let Some(s) = self.rest else {
-            return None;
-        };
-        let (word, rest) = take_word(s);
-        self.rest = rest;
-        Some(word)
+    fn word(&mut self) -> Result<&'a str, Unread> {
+        self.words.next().ok_or(Unread::Malformed)
     }
 
     // The bytes of the next word; no bytes at all are written `-`.
-    fn bytes(&mut self, heap: Global) -> Result<Vec<u8>, Unread> {
-        let Some(word) = self.next() else {
-            return Err(Unread::Malformed);
-        };
-        match word {
-            [] => Err(Unread::Malformed),
-            b"-" => Ok(Vec::new(heap)),
-            _ => hexadecimal::decode(heap, word)?.ok_or(Unread::Malformed),
+    fn bytes(&mut self) -> Result<Vec<u8>, Unread> {
+        match self.word()? {
+            "" => Err(Unread::Malformed),
+            "-" => Ok(Vec::new(self.heap)),
+            word => hexadecimal::decode(self.heap, word.as_bytes())?.ok_or(Unread::Malformed),
         }
     }
 
     // The block of the next word, which has to be of 16 bytes.
-    fn block(&mut self, heap: Global) -> Result<Block, Unread> {
-        let bytes = self.bytes(heap)?;
-        let Ok(bytes) = <[u8; 16]>::try_from(bytes.as_slice()) else {
-            return Err(Unread::Malformed);
-        };
-        Ok(from_bytes(bytes))
+    fn block(&mut self) -> Result<Block, Unread> {
+        let bytes = self.bytes()?;
+        Ok(from_bytes(<[u8; BLOCK]>::try_from(bytes.as_slice())?))
     }
 
     // The blocks of the next word, whole ones.
-    fn blocks(&mut self, heap: Global) -> Result<Vec<Block>, Unread> {
-        let bytes = self.bytes(heap)?;
-        if bytes.len() % 16 != 0 {
+    fn blocks(&mut self) -> Result<Vec<Block>, Unread> {
+        let bytes = self.bytes()?;
+        let (blocks, rest) = bytes.as_chunks::<BLOCK>();
+        if !rest.is_empty() {
             return Err(Unread::Malformed);
         }
-        let mut blocks = Vec::new(heap);
-        for part in bytes.chunks(16) {
-            blocks.push(load(part))?;
-        }
-        Ok(blocks)
+        Ok(blocks.iter().copied().map(from_bytes).collect(self.heap)?)
     }
 
-    // Sealing, or opening where the last word says so.
+    // Sealing, or opening where the next word says so.
     fn way(&mut self) -> Result<Way, Unread> {
-        match self.next() {
+        match self.words.next() {
             None => Ok(Way::Seal),
-            Some(b"open") => {
-                self.end()?;
-                Ok(Way::Open)
-            }
+            Some("open") => Ok(Way::Open),
             Some(_) => Err(Unread::Malformed),
         }
     }
 
+    fn passage(&mut self) -> Result<Passage, Unread> {
+        Ok(Passage {
+            tweak: self.block()?,
+            text: self.bytes()?,
+            way: self.way()?,
+        })
+    }
+
+    // A cipher's name alone, or behind that of a mode.
+    fn cipher_request(&mut self, command: &str) -> Result<Request, Unread> {
+        let (cipher, task) = match command.split_once('-') {
+            None => (
+                command.parse()?,
+                Task::Block {
+                    key: self.block()?,
+                    block: self.block()?,
+                    way: self.way()?,
+                },
+            ),
+            Some(("xts", cipher)) => (
+                cipher.parse()?,
+                Task::Xts {
+                    first: self.block()?,
+                    second: self.block()?,
+                    passage: self.passage()?,
+                },
+            ),
+            Some(("xcb", cipher)) => (
+                cipher.parse()?,
+                Task::Xcb {
+                    key: self.block()?,
+                    passage: self.passage()?,
+                },
+            ),
+            Some(_) => return Err(Unread::Malformed),
+        };
+        Ok(Request::Cipher(cipher, task))
+    }
+
+    fn request(&mut self) -> Result<Request, Unread> {
+        Ok(match self.word()? {
+            "product" => Request::Product(self.block()?, self.block()?),
+            "hash" => Request::Hash(self.block()?, self.blocks()?),
+            "double" => Request::Double(self.block()?),
+            "cards" => Request::Cards(self.bytes()?, self.bytes()?),
+            command => self.cipher_request(command)?,
+        })
+    }
+
     // No word is left.
-    fn end(&self) -> Result<(), Unread> {
-        if self.rest.is_none() {
-            Ok(())
-        } else {
-            Err(Unread::Malformed)
+    fn end(&mut self) -> Result<(), Unread> {
+        match self.words.next() {
+            None => Ok(()),
+            Some(_) => Err(Unread::Malformed),
         }
     }
 }
 
-fn cipher_request(heap: Global, cipher: CipherName, words: &mut Words) -> Result<Request, Unread> {
-    let key = words.block(heap)?;
-    let block = words.block(heap)?;
-    let way = words.way()?;
-    Ok(Request::Cipher {
-        cipher,
-        way,
-        key,
-        block,
-    })
-}
-
-fn xts_request(heap: Global, cipher: CipherName, words: &mut Words) -> Result<Request, Unread> {
-    let first = words.block(heap)?;
-    let second = words.block(heap)?;
-    let tweak = words.block(heap)?;
-    let text = words.bytes(heap)?;
-    let way = words.way()?;
-    Ok(Request::Xts {
-        cipher,
-        way,
-        first,
-        second,
-        tweak,
-        text,
-    })
-}
-
-fn xcb_request(heap: Global, cipher: CipherName, words: &mut Words) -> Result<Request, Unread> {
-    let key = words.block(heap)?;
-    let tweak = words.block(heap)?;
-    let text = words.bytes(heap)?;
-    let way = words.way()?;
-    Ok(Request::Xcb {
-        cipher,
-        way,
-        key,
-        tweak,
-        text,
-    })
-}
-
-// The requests that have no way.
-fn other_request(heap: Global, command: &[u8], words: &mut Words) -> Result<Request, Unread> {
-    let request = match command {
-        b"product" => Request::Product(words.block(heap)?, words.block(heap)?),
-        b"hash" => Request::Hash(words.block(heap)?, words.blocks(heap)?),
-        b"double" => Request::Double(words.block(heap)?),
-        b"cards" => Request::Cards(words.bytes(heap)?, words.bytes(heap)?),
-        _ => return Err(Unread::Malformed),
-    };
+pub(crate) fn parse(heap: Global, line: &[u8]) -> Result<Request, Unread> {
+    let words = str::from_utf8(line)?.split(' ');
+    let mut words = Words { heap, words };
+    let request = words.request()?;
     words.end()?;
     Ok(request)
-}
-
-pub(crate) fn parse(heap: Global, line: &[u8]) -> Result<Request, Unread> {
-    let mut words = Words { rest: Some(line) };
-    let Some(command) = words.next() else {
-        return Err(Unread::Malformed);
-    };
-    match command {
-        b"aes128" => cipher_request(heap, CipherName::Aes128, &mut words),
-        b"speck" => cipher_request(heap, CipherName::Speck, &mut words),
-        b"xts-aes128" => xts_request(heap, CipherName::Aes128, &mut words),
-        b"xts-speck" => xts_request(heap, CipherName::Speck, &mut words),
-        b"xcb-aes128" => xcb_request(heap, CipherName::Aes128, &mut words),
-        b"xcb-speck" => xcb_request(heap, CipherName::Speck, &mut words),
-        _ => other_request(heap, command, &mut words),
-    }
 }

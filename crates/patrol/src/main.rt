@@ -6,36 +6,26 @@
 // Each step and its outcome is printed. A round that is not well formed gets one line on standard error, and nothing is sealed.
 #![tactic(auto)]
 
-mod cards;
 mod show;
 
 use anyhow::anyhow;
-use cards::lay_cards;
-use doors::{Door, parse_round};
-use show::{show_doors, show_mode};
+use doors::parse_round;
+use guards::{Wands, lay_cards};
+use show::show_mode;
 use std::io::Read;
 use std::process::ExitCode;
 
-// The round on standard input, or what is wrong with it.
-fn read_input(rt: &HostRuntime) -> anyhow::Result<Vec<Door>> {
+// `patrol_flash` has the same steps of reading and printing: a library function that only prints would promise nothing.
+fn run(rt: &HostRuntime) -> anyhow::Result<()> {
     let mut input = Vec::new(rt.alloc());
     rt.stdin().read_to_end(&mut input)?;
-    match parse_round(rt.alloc(), &input) {
-        Ok(doors) => Ok(doors),
-        Err(e) => Err(anyhow!(format!(in rt.alloc(); "{e}; nothing is sealed")?)),
-    }
-}
-
-fn run(rt: &HostRuntime) -> anyhow::Result<()> {
-    let doors = read_input(rt)?;
+    let doors = parse_round(rt.alloc(), &input).map_err(|e| anyhow!("{e}; nothing is sealed"))?;
     let count = doors.len();
     println!(rt; "the round: {count} doors of 24 bytes, in 2 sectors of 512 bytes")?;
-    let wands = lay_cards()?;
+    let Wands { xcb, xts } = lay_cards()?;
     println!(rt; "the cards are laid: two for XCB, two for each key of XTS, on two wands")?;
-    let read = show_mode(rt, "XCB over AES-128", &wands.xcb, &wands.xcb2, &doors)?;
-    show_doors(rt, &read)?;
-    let read = show_mode(rt, "XTS over AES-128", &wands.xts, &wands.xts2, &doors)?;
-    show_doors(rt, &read)
+    show_mode(rt, "XCB over AES-128", &xcb, &doors)?;
+    show_mode(rt, "XTS over AES-128", &xts, &doors)
 }
 
 fn main(rt: HostRuntime) -> anyhow::Result<ExitCode> {

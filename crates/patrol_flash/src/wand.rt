@@ -1,7 +1,7 @@
 // A wand: a flash chip of the real size under a sealing layer; and the dock that copies the chip as it is, sealed.
-use anyhow::anyhow;
 use chip::{Flash, FlashCells};
 use compare::same_sectors;
+use copies::{ROUND, SECTOR};
 use copy::copy_sector;
 use doors::{Door, lay_round};
 use layer::Layer;
@@ -9,15 +9,10 @@ use mode::Mode;
 use std::alloc::Global;
 use store::{SectorSize, Store};
 
-// A wand's chip: so many sectors of so many bytes, and the writes that each bears.
-pub(crate) const SECTOR: usize = 512;
-
+// A wand's chip: so many sectors, and the writes that each bears.
 const SECTORS: usize = 2048;
 
 const LIFE: u32 = 100_000;
-
-// The bytes of the two sectors that hold a round.
-const ROUND: usize = 1024;
 
 // A chip as it comes from its maker: erased, and no life spent.
 fn new_chip(heap: Global) -> anyhow::Result<Flash> {
@@ -34,12 +29,11 @@ pub(crate) fn walk<M: Mode + Drop>(
     doors: &[Door],
 ) -> anyhow::Result<Layer<Flash, M>> {
     let mut image = [0; ROUND];
-    if !lay_round(doors, &mut image) {
-        return Err(anyhow!("the doors do not fit into two sectors"));
-    }
+    lay_round(doors, &mut image)?;
     let mut wand = Layer::new(new_chip(heap)?, mode);
-    wand.write(0, &image[0..SECTOR])?;
-    wand.write(1, &image[SECTOR..ROUND])?;
+    for (sector, bytes) in (0..2).zip(image.chunks(SECTOR)) {
+        wand.write(sector, bytes)?;
+    }
     Ok(wand)
 }
 
@@ -67,10 +61,12 @@ fn same_copies(one: &Flash, other: &Flash) -> anyhow::Result<bool> {
 }
 
 // The two sectors of a round as a pile shows them.
-pub(crate) fn read_sectors<S: Store>(store: &S, image: &mut [u8; 1024]) -> anyhow::Result<()> {
-    store.read(0, &mut image[0..SECTOR])?;
-    store.read(1, &mut image[SECTOR..ROUND])?;
-    Ok(())
+pub(crate) fn read_sectors<S: Store>(store: &S) -> anyhow::Result<[u8; ROUND]> {
+    let mut image = [0; ROUND];
+    for (sector, bytes) in (0..2).zip(image.chunks_mut(SECTOR)) {
+        store.read(sector, bytes)?;
+    }
+    Ok(image)
 }
 
 // Whether another wand, on which these doors were walked, has the same copy; the mode comes back for the next wand.

@@ -6,7 +6,7 @@ mod tests {
     use aes::Aes128;
     use block::{sector_tweak, to_bytes};
     use cipher::Cipher;
-    use keys::{HalfKey, WholeKey};
+    use keys::{HalfKey, RefusedCard, WholeKey};
     use mode::{Mode, is_sector_size, opened_again, permits, sealed_again};
     use refusal::Refusal;
     use speck::Speck128;
@@ -28,13 +28,9 @@ mod tests {
     #[test]
     fn two_cards_make_their_xor(rt: HostRuntime) -> Result<(), Fail> {
         let half = HalfKey::first_card(&[0x0f; 16])?;
-        match half.second_card(&[0xf0; 16]) {
-            Ok(key) => {
-                assert_eq!(rt; key.into_block(), u128::MAX);
-                Ok(())
-            },
-            Err(_) => Err(Fail::new("refused")),
-        }
+        let key = half.second_card(&[0xf0; 16]).map_err(Refusal::from)?;
+        assert_eq!(rt; key.into_block(), u128::MAX);
+        Ok(())
     }
 
     #[test]
@@ -54,17 +50,16 @@ mod tests {
     #[test]
     fn a_refused_card_hands_the_half_key_back(rt: HostRuntime) -> Result<(), Fail> {
         let half = HalfKey::first_card(&[7; 16])?;
-        let Err((half, refusal)) = half.second_card(&[7; 15]) else {
+        // the error is what is wanted here, so there is none for `?` to hand on
+        let Err(RefusedCard { half, refusal }) = half.second_card(&[7; 15]) else {
             return Err(Fail::new("a short card was taken"));
         };
         assert_eq!(rt; refusal, Refusal::NotACard);
-        let Err((half, refusal)) = half.second_card(&[7; 16]) else {
+        let Err(RefusedCard { half, refusal }) = half.second_card(&[7; 16]) else {
             return Err(Fail::new("the first card was taken again"));
         };
         assert_eq!(rt; refusal, Refusal::SameCard);
-        let Ok(key) = half.second_card(&[0; 16]) else {
-            return Err(Fail::new("a good card was refused"));
-        };
+        let key = half.second_card(&[0; 16]).map_err(Refusal::from)?;
         assert!(rt; to_bytes(key.into_block()) == [7; 16]);
         Ok(())
     }

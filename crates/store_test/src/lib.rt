@@ -36,6 +36,13 @@ mod tests {
     const XTS_XCB_1: [u8; 48] =
         *b"\x36\x07\xd4\xb1\xf4\x44\x46\x44\xf4\x82\xd4\xbd\x79\xde\x66\x68\xce\xec\xbb\xd3\x9b\x91\x0a\x69\xdf\xf8\x4e\x97\x97\xb9\x9d\x83\xb5\xb1\x45\xdd\x53\xef\x07\xc1\x2c\x8b\x6f\xc5\x4e\xeb\x9b\x0a";
 
+    // How vectors 4 and 5 of IEEE 1619 begin, sealed.
+    const VECTOR_4: [u8; 32] =
+        *b"\x27\xa7\x47\x9b\xef\xa1\xd4\x76\x48\x9f\x30\x8c\xd4\xcf\xa6\xe2\xa9\x6e\x4b\xbe\x32\x08\xff\x25\x28\x7d\xd3\x81\x96\x16\xe8\x9c";
+
+    const VECTOR_5: [u8; 32] =
+        *b"\x26\x4d\x3c\xa8\x51\x21\x94\xfe\xc3\x12\xc8\xc9\x89\x1f\x27\x9f\xef\xdd\x60\x8d\x0c\x02\x7b\x60\x48\x3a\x3f\xa8\x11\xd6\x5e\xe5";
+
     fn xts() -> Xts<Aes128> {
         Xts::new(
             WholeKey::without_cards(0x27182818284590452353602874713526),
@@ -45,11 +52,6 @@ mod tests {
 
     fn xcb() -> Xcb<Aes128> {
         Xcb::new(WholeKey::without_cards(0x000102030405060708090a0b0c0d0e0f))
-    }
-
-    // Whether the bytes from one place to another are these.
-    fn holds(bytes: &[u8], from: usize, to: usize, part: &[u8]) -> bool {
-        from <= to && to <= bytes.len() && &bytes[from..to] == part
     }
 
     // A chip of so many sectors, all zero, with 3 lives each.
@@ -72,7 +74,7 @@ mod tests {
     #[test]
     fn a_sector_size_is_a_multiple_of_16_from_32_to_4096(rt: HostRuntime) -> Result<(), Fail> {
         for bytes in [0, 16, 31, 33, 40, 4080 + 8, 4097, 4112] {
-            assert_eq!(rt; SectorSize::new(bytes).err(), Some(Refusal::Size));
+            assert_eq!(rt; SectorSize::new(bytes), Err(Refusal::Size));
         }
         for bytes in [32, 48, 512, 4080, 4096] {
             assert_eq!(rt; SectorSize::new(bytes)?.bytes(), bytes);
@@ -131,9 +133,9 @@ mod tests {
         chip.write(1, &[0xa5; 32])?;
         assert_eq!(rt; chip.life(1)?, 2);
         let (bytes, lives) = chip.into_parts();
-        assert!(rt; holds(&bytes, 0, 32, &[5; 32]));
-        assert!(rt; holds(&bytes, 32, 64, &[0xa5; 32]));
-        assert!(rt; holds(&bytes, 64, 70, &[5; 6]));
+        assert_eq!(rt; bytes.get(0..32), Some([5; 32].as_slice()));
+        assert_eq!(rt; bytes.get(32..64), Some([0xa5; 32].as_slice()));
+        assert_eq!(rt; bytes.get(64..70), Some([5; 6].as_slice()));
         assert!(rt; lives.as_slice() == [4, 2, 4].as_slice());
         Ok(())
     }
@@ -167,24 +169,10 @@ mod tests {
         layer.write(0, &plain)?;
         let mut sealed = [0; 512];
         layer.below().read(0, &mut sealed)?;
-        assert!(rt;
-            holds(
-                &sealed,
-                0,
-                32,
-                b"\x27\xa7\x47\x9b\xef\xa1\xd4\x76\x48\x9f\x30\x8c\xd4\xcf\xa6\xe2\xa9\x6e\x4b\xbe\x32\x08\xff\x25\x28\x7d\xd3\x81\x96\x16\xe8\x9c",
-            )
-        );
+        assert_eq!(rt; sealed.get(0..32), Some(VECTOR_4.as_slice()));
         layer.write(1, &sealed)?;
         layer.below().read(1, &mut sealed)?;
-        assert!(rt;
-            holds(
-                &sealed,
-                0,
-                32,
-                b"\x26\x4d\x3c\xa8\x51\x21\x94\xfe\xc3\x12\xc8\xc9\x89\x1f\x27\x9f\xef\xdd\x60\x8d\x0c\x02\x7b\x60\x48\x3a\x3f\xa8\x11\xd6\x5e\xe5",
-            )
-        );
+        assert_eq!(rt; sealed.get(0..32), Some(VECTOR_5.as_slice()));
         layer.read(0, &mut sealed)?;
         assert!(rt; sealed == plain);
         Ok(())
@@ -222,9 +210,9 @@ mod tests {
         assert_eq!(rt; pile.life(0)?, 2);
         let (low, _) = pile.into_below().into_parts();
         let (bytes, lives) = low.into_below().into_parts();
-        assert!(rt; holds(&bytes, 0, 144, &[0; 144]));
-        assert!(rt; holds(&bytes, 144, 192, &XTS_1));
-        assert!(rt; holds(&bytes, 192, 384, &[0; 192]));
+        assert_eq!(rt; bytes.get(0..144), Some([0; 144].as_slice()));
+        assert_eq!(rt; bytes.get(144..192), Some(XTS_1.as_slice()));
+        assert_eq!(rt; bytes.get(192..384), Some([0; 192].as_slice()));
         assert!(rt; lives.as_slice() == [3, 3, 3, 2, 3, 3, 3, 3].as_slice());
         Ok(())
     }

@@ -4,12 +4,12 @@ use Rattle.block.proofs.Bytes.{block_bytes, bytes_block}
 use Rattle.kat.proofs.Texts.{laid}
 use Rattle.kat.proofs.answer.lay_cards.Goals as goal
 
-pub returns-in-Ok-second_card : goal.returns-in-Ok-second_card
-returns-in-Ok-second_card c =
+pub returns : goal.returns
+returns c =
     let a = c.args.first.now in
     let b = c.args.second.now in
-    let f = c.in-Ok.ensures in
-    let s = c.in-Ok-second_card.ensures in
+    let f = c.in_ok-first_card.ensures in
+    let s = c.in_ok-key.ensures in
     let small : c.into_block.result < 2 ^ 128 = search rules in
     laid a b c.into_block.result f.0 s.0
     (λ e. s.1 (sym (bytes_block b c.known_bytes-2.ensures s.0) ∙ ap to_bytes (sym e) ∙ bytes_block a c.known_bytes.ensures f.0 ∙ sym f.1))
