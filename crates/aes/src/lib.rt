@@ -2,8 +2,8 @@
 // with round keys that went through InvMixColumns, so that both directions go by tables.
 #![tactic(auto)]
 
-ghost use Rattle.std.specs.Prelude.{◌≡◌, slice_index};
-ghost use Rattle.aes_math.specs.Rounds.{state_of};
+ghost use Rattle.std.specs.Prelude.{◌≡◌, ℕ, ◌^◌, ◌<◌, slice_index};
+ghost use Rattle.aes_math.specs.Rounds.{inv_mix_columns, state_of};
 ghost use Rattle.aes.specs.Aes128.{next_key, opened, sealed};
 ghost use Rattle.aes.specs.Facts.{Example, Undone, Words};
 ghost use Rattle.aes.specs.Schedule.{Expanded, Reversed, cipher_by};
@@ -51,10 +51,21 @@ fn expand(key: u128) -> [u128; 11]
     enc
 }
 
+// Each key after InvMixColumns, in place: by `map` the keys are copied through an iterator.
+fn mix_keys(keys: &mut [u128; 11])
+    ensures mixed { (i : ℕ) → i < 11 → state_of (slice_index keys.new i) ≡ inv_mix_columns (state_of (slice_index keys.old i)) }
+    ensures fits { (i : ℕ) → slice_index keys.new i < 2 ^ 128 }
+{
+    for k in keys.iter_mut() {
+        *k = inv_mix_columns(*k);
+    }
+}
+
 fn inv_expand(enc: &[u128; 11]) -> [u128; 11]
     ensures { Reversed enc.now result }
 {
-    let mut dec = enc.map(inv_mix_columns);
+    let mut dec = *enc;
+    mix_keys(&mut dec);
     dec.reverse();
     dec[0] = enc[10];
     dec[10] = enc[0];

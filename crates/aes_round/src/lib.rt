@@ -104,12 +104,20 @@ pub fn last_round<D: Direction>(s: u128, k: u128) -> u128
 fn inv_mix(w: u32) -> u32
     ensures { word_of result ≡ inv_mix_word (word_of w) }
 {
-    mix::<Inverse>(sub_word(w).to_be_bytes())
+    // byte by byte: by way of `sub_word` the bytes are joined to a word and taken apart again, at a third more time for a key
+    let [a, b, c, d] = w.to_be_bytes();
+    mix::<Inverse>([
+        Forward::substitute(a),
+        Forward::substitute(b),
+        Forward::substitute(c),
+        Forward::substitute(d),
+    ])
 }
 
 // InvMixColumns of a whole state: the equivalent inverse cipher asks it of a round key.
 pub fn inv_mix_columns(k: u128) -> u128
     ensures { state_of result ≡ inv_mix_columns (state_of k) }
 {
-    join(columns(k).map(inv_mix))
+    let [a, b, c, d] = columns(k);
+    join([inv_mix(a), inv_mix(b), inv_mix(c), inv_mix(d)])
 }

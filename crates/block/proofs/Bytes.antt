@@ -1,10 +1,11 @@
 -- Bytes and blocks: the laws.
-use Rattle.std.proofs.Common.{◌≡◌, ℕ, zero, suc, ◌+◌, ◌*◌, ◌/◌, ◌%◌, ◌^◌, ◌<◌, List, [], ◌∷◌, length, get_or, take, refl, ap, ◌∙◌, subst, mod-eq_of_lt, mul_assoc, add-mul, arith}
+use Rattle.std.proofs.Common.{◌≡◌, ℕ, zero, suc, ◌+◌, ◌*◌, ◌/◌, ◌%◌, ◌^◌, ◌<◌, List, [], ◌∷◌, length, get_or, take, refl, ap, ◌∙◌, subst, mod-eq_of_lt, mul_assoc, add-mul, arith, w8, Fits}
 use native.Mathlib.Nat.{pow-succ', mod-one, one-le-pow}
 use lib.Arith.{mod-mul, digits_div, digits_mod}
 use Rattle.std.specs.Int.Digits.{number_from_digits, number_from_digits_after, AllBelowBase}
 use Rattle.std.proofs.lemmas.Int.Digits.{number_more, number_lt}
 use Rattle.std.proofs.lemmas.List.{take_all}
+use Rattle.std.proofs.ByRecursion.{All-from_get_or}
 use Rattle.block.specs.Blocks.{bytes_of, to_bytes, to_block}
 
 step : (xs : List ℕ) (i : ℕ) → length xs ≡ 16 → i < 16 → number_from_digits 256 (take (i + 1) xs) ≡ number_from_digits 256 (take i xs) * 256 + get_or xs i 0
@@ -15,6 +16,10 @@ number_16 xs h =
     let e : number_from_digits 256 (take 16 xs) ≡ number_from_digits 256 xs = ap (number_from_digits 256) (take_all 16 xs (omega arith)) in
     let s : (i : ℕ) → i < 16 → number_from_digits 256 (take (i + 1) xs) ≡ number_from_digits 256 (take i xs) * 256 + get_or xs i 0 = λ i k. step xs i h k in
     omega (arith, e, s 0 (omega arith), s 1 (omega arith), s 2 (omega arith), s 3 (omega arith), s 4 (omega arith), s 5 (omega arith), s 6 (omega arith), s 7 (omega arith), s 8 (omega arith), s 9 (omega arith), s 10 (omega arith), s 11 (omega arith), s 12 (omega arith), s 13 (omega arith), s 14 (omega arith), s 15 (omega arith))
+
+-- what a slice of bytes holds are bytes
+pub under_typed : (xs : List ℕ) → ((i : ℕ) → Fits w8 (get_or xs i 0)) → AllBelowBase 256 xs
+under_typed xs f = All-from_get_or (λ d. d < 256) xs 0 (λ i h. (f i).fits)
 
 pub length-bytes_of : (k n : ℕ) → length (bytes_of k n) ≡ k
 length-bytes_of zero n = refl

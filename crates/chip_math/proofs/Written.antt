@@ -1,19 +1,20 @@
 -- The calls of a chip against the meaning of a store: facts over plain values.
-use Rattle.std.proofs.Common.{◌≡◌, ℕ, zero, suc, ◌+◌, ◌-◌, ◌*◌, ◌/◌, ◌^◌, ◌<◌, ◌≤◌, min, true, List, [], ◌∷◌, map, length, get_or, take, drop, set, sym, ap, ◌∙◌, ⊎_elim, mul-le-mul_right, suc-mul, arith, length-append, length-drop, length-set, length-take, drop-set-lt}
+use Rattle.std.proofs.Common.{◌≡◌, ℕ, zero, suc, ◌+◌, ◌-◌, ◌*◌, ◌/◌, ◌^◌, ◌<◌, ◌≤◌, min, true, false, eqb, List, [], ◌∷◌, map, length, get_or, take, drop, set, sym, ap, ◌∙◌, ⊎_elim, mul-le-mul_right, suc-mul, arith, length-append, length-drop, length-set, length-take, drop-set-lt}
 use lib.Seq.{take-set-lt}
 use borrow.Rule.Slice.PartMut.{put_mid}
 use Rattle.std.specs.List.{range_with_len}
 use Rattle.std.specs.Int.Digits.{AllBelowBase}
+use Rattle.std.proofs.lemmas.List.{get_or_default}
 use Rattle.std.proofs.ByRecursion.{All-from_get_or, All-take, All-drop, All-append}
 use Rattle.std.proofs.lemmas.Slice.{between_is, take-put_mid_below, drop-put_mid, between-put_mid}
 use Rattle.std.proofs.lemmas.Grind.{common_steps}
 use Rattle.std.proofs.lemmas.Bool.Decides.{nat_tests}
-use Rattle.std.proofs.lemmas.Bool.{cases_order, eq-eqb, cond-true}
-use Rattle.store.specs.Stores.{Meaning, rows, count, life, write_answer, after_write}
+use Rattle.std.proofs.lemmas.Bool.{cases_order, le-ltb, lt-ltb, eq-eqb, ne_eqb, cond-true, cond-false}
+use Rattle.store.specs.Stores.{Meaning, rows, count, life, life_answer, read_answer, write_answer, after_read, after_write}
 use Rattle.store.proofs.Placed.{counted_set}
-use Rattle.store.proofs.Tests.{write_last, write_puts}
+use Rattle.store.proofs.Tests.{read_last, read_fills, read_keeps, write_last, write_puts, write_keeps}
 use Rattle.chip_math.specs.Chips.{chip_count, chip_sector, chip, overlaid, bytes_after, lives_after}
-use Rattle.chip_math.proofs.Chipped.{count_is, ends, in_bytes, life_is}
+use Rattle.chip_math.proofs.Chipped.{count_is, ends, in_bytes, in_lives, sector_is, life_is}
 
 length-put_mid : (a n : ℕ) (xs ys : List ℕ) → length ys ≡ n → a + n ≤ length xs → length (put_mid a n xs ys) ≡ length xs
 length-put_mid a n xs ys e h = simp (length-append, length-take, length-drop) (omega arith)
@@ -80,8 +81,55 @@ module _ (size : ℕ) (bytes lives : List ℕ) (k : ℕ) where
   alike : {ss ss' : List (List ℕ)} {ls ls' bs bs' beyond beyond' : List ℕ} → ss ≡ ss' → ls ≡ ls' → bs ≡ bs' → beyond ≡ beyond' → meant ss ls bs beyond ≡ meant ss' ls' bs' beyond'
   alike p q r s = cc
 
+  far : n ≤ k → count m ≤ k
+  far h = omega (arith, count_is size bytes lives)
+
   near : k < n → k < count m
   near h = omega (arith, count_is size bytes lives)
+
+  -- the life of a sector that is not there, and of one that is
+  pub life_absent : n ≤ k → 3 ≡ life_answer m k
+  life_absent h = sym (cond-false _ 0 3 (le-ltb k (count m) (far h)))
+
+  pub life_done : (x : ℕ) → k < n → x ≡ get_or lives k x → record { reply : 0 ≡ life_answer m k; value : x ≡ life m k }
+  life_done x h e =
+      record {
+        reply = sym (cond-true _ 0 3 (lt-ltb k (count m) (near h)));
+        value = e ∙ get_or_default lives k x 0 (in_lives size bytes lives k h) ∙ sym (life_is size bytes lives k h);
+      }
+
+  -- a read that is refused leaves the bytes
+  abbrev pub Unread : ℕ → List ℕ → Type 0
+  Unread a xs = record { reply : a ≡ read_answer m k (length xs); bytes : xs ≡ after_read m k xs }
+
+  pub unread : (a : ℕ) (xs : List ℕ) → read_answer m k (length xs) ≡ a → 0 < a → Unread a xs
+  unread a xs e l = record { reply = sym e; bytes = sym (read_keeps m k xs (λ z. omega arith)) }
+
+  -- a read of a sector that is there
+  pub read_done : (xs : List ℕ) → k < n → length xs ≡ size → record { reply : 0 ≡ read_answer m k (length xs); bytes : chip_sector size bytes k ≡ after_read m k xs }
+  read_done xs h long =
+      let e = read_last m k (length xs) (near h) long in
+      record { reply = sym e; bytes = sym (sector_is size bytes lives k h) ∙ sym (read_fills m k xs e) }
+
+  -- a write that is refused leaves the store, and the memory
+  abbrev pub Refused : ℕ → List ℕ → Type 0
+  Refused a xs =
+      record {
+        reply : a ≡ write_answer m k (length xs);
+        after : m ≡ after_write m k xs;
+        raw_bytes : bytes ≡ bytes_after size bytes lives k xs;
+        raw_lives : lives ≡ lives_after size bytes lives k xs;
+      }
+
+  pub refused : (a : ℕ) (xs : List ℕ) → write_answer m k (length xs) ≡ a → 0 < a → Refused a xs
+  refused a xs e l =
+      let no : eqb (write_answer m k (length xs)) 0 ≡ false = ne_eqb (write_answer m k (length xs)) 0 (λ z. omega arith) in
+      record {
+        reply = sym e;
+        after = sym (write_keeps m k xs (λ z. omega arith));
+        raw_bytes = sym (cond-false _ _ bytes no);
+        raw_lives = sym (cond-false _ _ lives no);
+      }
 
   -- a refused write leaves the bytes
   pub bytes_kept : (xs : List ℕ) → (write_answer m k (length xs) ≡ 0 → ⊥) → bytes ≡ bytes_after size bytes lives k xs

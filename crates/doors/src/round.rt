@@ -90,7 +90,8 @@ pub fn read_round(heap: Global, image: &[u8; IMAGE]) -> Result<Vec<Door>, AllocE
     ensures back { IfOk result (λ v. (ds : List Door) → length ds ≤ 42 → image.now ≡ image_of ds → v.items ≡ ds) }
 {
     let mut doors = Vec::new(heap);
-    let (places, _) = image.as_chunks::<RECORD>();
+    let (chunks, _) = image.as_chunks::<RECORD>();
+    let places = &chunks[..PLACES];
     for bytes in places {
         let Some(door) = Door::from_record(*bytes) else {
             break;

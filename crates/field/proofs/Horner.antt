@@ -17,6 +17,13 @@ pub halved_zero : halved 0 ≡ 0
 unfolding halved
 halved_zero = refl
 
+pub halved_even : (n : ℕ) → halved (n * 2) ≡ n
+unfolding halved
+halved_even n =
+    let a : n * 2 / 2 ≡ n = omega arith in
+    let b : n * 2 % 2 ≡ 0 = omega arith in
+    ap₂ (λ (x y : ℕ). bit_xor x (y * E)) a b ∙ xor_zero_r n
+
 halved-digit : (p v : ℕ) → p < 2 → halved (p * v) ≡ p * halved v
 halved-digit zero v h = ap halved (zero-mul v) ∙ halved_zero ∙ sym (zero-mul (halved v))
 halved-digit (suc zero) v h =

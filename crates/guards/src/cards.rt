@@ -8,7 +8,7 @@ ghost use Rattle.xts.specs.Xts as xts;
 use aes::Aes128;
 use cipher::Cipher;
 use keys::{HalfKey, WholeKey};
-use mode::{Mode, new_pair};
+use mode::Mode;
 use refusal::Refusal;
 use xcb::Xcb;
 use xts::Xts;
@@ -43,10 +43,12 @@ pub fn lay_cards() -> Result<Wands, Refusal>
     ensures xts { IfOk result (λ w. Both (⟦<Xts<Aes128> as Mode>⟧.sealing) w.xts (xts.xts ⟦<Aes128 as Cipher>⟧ (key_with xts_card) (key_with tweak_card))) }
 {
     Ok(Wands {
-        xcb: new_pair(key(&GUARD_XCB)?, key(&GUARD_XCB)?),
-        xts: new_pair(
-            (key(&GUARD_XTS)?, key(&GUARD_TWEAK)?),
-            (key(&GUARD_XTS)?, key(&GUARD_TWEAK)?),
+        xcb: xcb::new_pair(key(&GUARD_XCB)?, key(&GUARD_XCB)?),
+        xts: xts::new_pair(
+            key(&GUARD_XTS)?,
+            key(&GUARD_TWEAK)?,
+            key(&GUARD_XTS)?,
+            key(&GUARD_TWEAK)?,
         ),
     })
 }

@@ -9,9 +9,8 @@ pub encoded_push : (xs : List ℕ) (b : ℕ) → encoded (xs ++ b ∷ []) ≡ en
 encoded_push [] b = refl
 encoded_push (x ∷ xs) b = ap (λ (t : List ℕ). digit (x / 16) ∷ digit (x % 16) ∷ t) (encoded_push xs b)
 
-pub encoded_more : (s : List ℕ) (i : ℕ) {t u : List ℕ} → i < length s → t ≡ encoded (take i s) → u ≡ t ++ digit (get_or s i 0 / 16) ∷ digit (get_or s i 0 % 16) ∷ [] → u ≡ encoded (take (i + 1) s)
-encoded_more s i h e f =
-    f ∙ ap (λ (x : List ℕ). x ++ digit (get_or s i 0 / 16) ∷ digit (get_or s i 0 % 16) ∷ []) e ∙ sym (encoded_push (take i s) (get_or s i 0)) ∙ sym (ap encoded (take_more s i 0 h))
+pub encoded_more : (s : List ℕ) (i : ℕ) → i < length s → encoded (take (i + 1) s) ≡ (encoded (take i s) ++ digit (get_or s i 0 / 16) ∷ []) ++ digit (get_or s i 0 % 16) ∷ []
+encoded_more s i h = ap encoded (take_more s i 0 h) ∙ encoded_push (take i s) (get_or s i 0) ∙ sym (append_assoc (encoded (take i s)) (digit (get_or s i 0 / 16) ∷ []) (digit (get_or s i 0 % 16) ∷ []))
 
 decodes_push : (text bs : List ℕ) (h l b : ℕ) → Decodes text bs → Pair h l b → Decodes (text ++ h ∷ l ∷ []) (bs ++ b ∷ [])
 decodes_push [] [] h l b d p = (p, tt)

@@ -1,10 +1,19 @@
 //! Hexadecimal: two digits a byte, the high one first. Written in lower case, read in either.
 #![tactic(auto)]
 
-ghost use Rattle.std.specs.Prelude.{◌≡◌, ℕ, List, IfOk, string_bytes, MatchOption};
-ghost use Rattle.hexadecimal.specs.Hex.{Bytes, Decodes, Pair, encoded};
+ghost use Rattle.std.specs.Prelude.{◌≡◌, ℕ, ◌<◌, List, IfOk, string_bytes, MatchOption};
+ghost use Rattle.hexadecimal.specs.Hex.{Bytes, Decodes, Pair, digit, encoded};
 
 use std::alloc::{AllocError, Global};
+
+// The digit of a value, in lower case.
+fn digit_of(v: u8) -> char
+    requires { v < 16 }
+    ensures value { result ≡ digit v }
+    ensures ascii { result < 128 }
+{
+    char::from_digit(u32::from(v), 16).unwrap()
+}
 
 // The byte that two digits of either case write.
 fn byte_of(high: u8, low: u8) -> Option<u8>
@@ -21,7 +30,9 @@ pub fn encode(heap: Global, bytes: &[u8]) -> Result<String, AllocError>
 {
     let mut text = String::new(heap);
     for b in bytes {
-        write!(text, "{b:02x}")?;
+        // digit by digit: by `write!` and `{b:02x}` a byte takes several times as long
+        text.push(digit_of(*b / 16))?;
+        text.push(digit_of(*b % 16))?;
     }
     Ok(text)
 }

@@ -1,5 +1,6 @@
 // Carrying a request out with the library. What is answered is what the definitions say of the request.
 ghost use Rattle.std.specs.Prelude.{◌≡◌};
+ghost use Rattle.keys.specs.Cards.{whole_key};
 ghost use Rattle.kat.specs.Outcomes.{cards_outcome, outcome, shown, task_outcome, text_outcome, turned};
 
 use super::request::{CipherName, Passage, Request, Task, Way};
@@ -18,6 +19,13 @@ use xts::{Xts, double};
 pub enum Reply {
     Block(Block),
     Text(Vec<u8>),
+}
+
+// A vector gives its key outright, and the zero key among them has no cards.
+fn key_of(block: Block) -> WholeKey
+    ensures { result ≡ whole_key block }
+{
+    WholeKey::without_cards(block)
 }
 
 fn turn_block<C: Cipher + Drop>(key: C::Key, block: Block, way: Way) -> Block
@@ -46,29 +54,20 @@ fn turn_text<M: Keyed + Drop>(keys: M::Keys, passage: Passage) -> Result<Reply, 
     Ok(Reply::Text(text))
 }
 
-// A vector gives its key outright, and the zero key among them has no cards.
 #[tactic(auto, unfolding(crate::specs::Outcomes::task_outcome))]
 fn by_cipher<C: Cipher<Key = WholeKey> + Drop>(task: Task) -> Result<Reply, Refusal>
     ensures { shown result ≡ task_outcome C.Cipher task }
 {
     match task {
         Task::Block { key, block, way } => {
-            let key = WholeKey::without_cards(key);
-            Ok(Reply::Block(turn_block::<C>(key, block, way)))
+            Ok(Reply::Block(turn_block::<C>(key_of(key), block, way)))
         }
         Task::Xts {
             first,
             second,
             passage,
-        } => {
-            let first = WholeKey::without_cards(first);
-            let second = WholeKey::without_cards(second);
-            turn_text::<Xts<C>>((first, second), passage)
-        }
-        Task::Xcb { key, passage } => {
-            let key = WholeKey::without_cards(key);
-            turn_text::<Xcb<C>>(key, passage)
-        }
+        } => turn_text::<Xts<C>>((key_of(first), key_of(second)), passage),
+        Task::Xcb { key, passage } => turn_text::<Xcb<C>>(key_of(key), passage),
     }
 }
 

@@ -3,7 +3,7 @@
 
 ghost use Rattle.std.specs.Prelude.{◌≡◌, ℕ, ◌%◌, true, ◌&&◌, length, ◌==◌, nat_le};
 ghost use Rattle.mode.specs.Modes.{Alike, Lawful, Sealing, mode_answer, opened_or, permitted, sealed_or, sector_size};
-ghost use Rattle.mode.specs.Walks.{Answers, AnswersBoth, walked};
+ghost use Rattle.mode.specs.Walks.{walked};
 ghost use Rattle.refusal.specs.Refusals.{answer};
 
 use block::{BLOCK, Block, known_bytes, load, store};
@@ -92,24 +92,30 @@ pub fn new_pair<M: Keyed>(keys: M::Keys, keys2: M::Keys) -> (M, M)
     (M::from_keys(keys), M::from_keys(keys2))
 }
 
-// Each whole block b of a text becomes f(s, b), in place, where the state s begins as `start` and `next` steps it from block to block.
-pub fn walk_blocks<F: Fn(Block, Block) -> Block, N: Fn(Block) -> Block>(
-    text: &mut [u8],
-    start: Block,
-    f: F,
-    next: N,
-)
-    requires turns { F.IsAlwaysCallable f }
-    requires steps { N.IsAlwaysCallable next }
-    ensures { (g : ℕ → ℕ → ℕ) (h : ℕ → ℕ) → AnswersBoth (F.post f) g → Answers (N.post next) h → text.new ≡ walked g h start text.old }
+// What becomes of the blocks of a text, one after the other: of each in a state, which steps from block to block.
+pub trait Walk {
+    ghost turned: { Self → ℕ → ℕ → ℕ };
+
+    ghost stepped: { Self → ℕ → ℕ };
+
+    fn turn(&self, state: Block, block: Block) -> Block
+        ensures { result ≡ turned self.now state block };
+
+    fn step(&self, state: Block) -> Block
+        ensures { result ≡ stepped self.now state };
+}
+
+// Each whole block of a text is turned, in place, from the state `start` on.
+pub fn walk_blocks<W: Walk>(walk: &W, start: Block, text: &mut [u8])
+    ensures { text.new ≡ walked (W.turned walk.now) (W.stepped walk.now) start text.old }
 {
     let mut state = start;
     // By index: of what `chunks_mut` lends, std says only how long it is in the end.
     for i in 0..text.len() / BLOCK {
         let at = BLOCK * i;
         let part = &mut text[at..at + BLOCK];
-        let block = f(state, load(part));
+        let block = walk.turn(state, load(part));
         store(part, block);
-        state = next(state);
+        state = walk.step(state);
     }
 }

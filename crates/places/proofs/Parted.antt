@@ -4,7 +4,7 @@ use Rattle.std.specs.List.{range_with_len}
 use Rattle.std.specs.Int.Digits.{AllBelowBase}
 use Rattle.std.proofs.lemmas.List.FromFn.{length-map-range_with_len, get_or-map-range_with_len}
 use Rattle.std.proofs.lemmas.Bool.{cases_order, lt-ltb, cond-true}
-use Rattle.store.specs.Stores.{Meaning, Sound, count, sector, life, put, read_answer, write_answer, after_read, after_write}
+use Rattle.store.specs.Stores.{Meaning, Sound, count, sector, life, put, life_answer, read_answer, write_answer, after_read, after_write}
 use Rattle.store.specs.Stores.Rest.{rows, both}
 use Rattle.store.proofs.Placed.{counted_set}
 use Rattle.store.proofs.Same.{same_meaning}
@@ -85,6 +85,9 @@ module _ (m : Meaning) (p : ℕ → ℕ) (n : ℕ) (s : Sound m) (r : Rising p n
 
     below : ltb (p k) (count m) ≡ true
     below = lt-ltb (p k) (count m) (r.within k h)
+
+    pub part_life_answer : life_answer m (p k) ≡ life_answer (part m p n) k
+    part_life_answer = cond-true _ 0 3 below ∙ sym (cond-true _ 0 3 near)
 
     pub part_read_answer : (l : ℕ) → read_answer m (p k) l ≡ read_answer (part m p n) k l
     part_read_answer l = cond-true _ _ 3 below ∙ sym (cond-true _ _ 3 near)

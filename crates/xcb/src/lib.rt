@@ -3,18 +3,18 @@
 // the keys and the frames of the two hashes exchanged, so that one text serves both. The counter is XORed, and starts from 0.
 #![tactic(auto)]
 
-ghost use Rattle.std.specs.Prelude.{◌≡◌, ◌-◌, ◌/◌, ◌%◌, true, length};
+ghost use Rattle.std.specs.Prelude.{◌≡◌, ℕ, ◌+◌, ◌-◌, ◌/◌, ◌%◌, ◌^◌, true, length};
 ghost use Rattle.cipher.specs.Made.{opening, sealing};
 ghost use Rattle.block.specs.Blocks.{blocks_of};
-ghost use Rattle.mode.specs.Modes.{permitted};
+ghost use Rattle.mode.specs.Modes.{Alike, permitted};
 ghost use Rattle.xcb.specs.Facts.{Undone};
-ghost use Rattle.xcb.specs.Xcb.{LeftBlocks, digest, inner, length_block, meaning, outer, passed, sealing_frames, streamed, xcb};
+ghost use Rattle.xcb.specs.Xcb.{LeftBlocks, counted, digest, inner, length_block, meaning, outer, passed, sealing_frames, streamed, xcb};
 ghost use Rattle.xcb.specs.Laws.{undone};
 
 use block::{BLOCK, Block, from_bytes, load, store};
 use cipher::Cipher;
 use field::HashKey;
-use mode::{Keyed, Mode, permits, walk_blocks};
+use mode::{Keyed, Mode, Walk, permits, walk_blocks};
 use refusal::Refusal;
 
 // The blocks that stand before and behind the left part where it is hashed.
@@ -105,6 +105,27 @@ fn left_blocks(text: &[u8]) -> Result<usize, Refusal>
     Ok(text.len() / BLOCK - 1)
 }
 
+// Block j of the left part, from 0, is XORed with the sealing of z XOR j.
+#[derive(Drop)]
+struct Stream<'a, C> {
+    counter: &'a C,
+    z: Block,
+}
+
+impl<C: Cipher> Walk for Stream<'_, C> {
+    ghost turned = { λ s. counted (sealing C.Cipher s.counter.now) s.z };
+
+    ghost stepped = { λ s j. (j + 1) % 2 ^ 128 };
+
+    fn turn(&self, j: Block, block: Block) -> Block {
+        block ^ self.counter.seal(self.z ^ j)
+    }
+
+    fn step(&self, j: Block) -> Block {
+        j.wrapping_add(1)
+    }
+}
+
 // Kh with its table, and ciphers under Ke, Kd and Kc.
 #[derive(Drop)]
 pub struct Xcb<C: Cipher> {
@@ -135,12 +156,11 @@ impl<C: Cipher> Xcb<C> {
         requires { length part.old % 16 ≡ 0 }
         ensures { part.new ≡ streamed (sealing C.Cipher self.now.counter) z (length part.old / 16) part.old }
     {
-        walk_blocks(
-            part,
-            0,
-            |j, block| block ^ self.counter.seal(z ^ j),
-            |j| j.wrapping_add(1),
-        );
+        let stream = Stream {
+            counter: &self.counter,
+            z,
+        };
+        walk_blocks(&stream, 0, part);
     }
 
     // The whole way over a text: `front` seals the last block, `back` opens it again at the end.
@@ -196,3 +216,12 @@ impl<C: Cipher + Drop> Keyed for Xcb<C> {
 pub fn xcb_stands()
     ensures { Undone }
 {}
+
+// `mode::new_pair` for XCB: the modes of two wands, each from its own key; where the keys are equal, the modes seal alike at every size.
+pub fn new_pair<C: Cipher + Drop>(key: C::Key, key2: C::Key) -> (Xcb<C>, Xcb<C>)
+    ensures one { meaning C.Cipher result.0 ≡ xcb C.Cipher key }
+    ensures other { meaning C.Cipher result.1 ≡ xcb C.Cipher key2 }
+    ensures alike { key ≡ key2 → (size : ℕ) → Alike size (meaning C.Cipher result.0) (meaning C.Cipher result.1) }
+{
+    mode::new_pair(key, key2)
+}

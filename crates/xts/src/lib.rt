@@ -3,17 +3,16 @@
 #![tactic(auto)]
 
 ghost use Rattle.std.specs.Prelude.{◌≡◌, ℕ, length, if◌then◌else◌};
-ghost use Rattle.cipher.specs.Made.{sealing};
+ghost use Rattle.cipher.specs.Made.{opening, sealing};
 ghost use Rattle.mode.specs.Modes.{Alike, mode_answer, permitted};
-ghost use Rattle.mode.specs.Walks.{Answers};
 ghost use Rattle.refusal.specs.Refusals.{answer};
 ghost use Rattle.xts.specs.Facts.{Undone};
-ghost use Rattle.xts.specs.Xts.{blockwise, doubled, meaning, twice, xts};
+ghost use Rattle.xts.specs.Xts.{blockwise, doubled, masked, meaning, twice, xts};
 ghost use Rattle.xts.specs.Laws.{undone};
 
 use block::{Block, swap};
 use cipher::Cipher;
-use mode::{Keyed, Mode, permits, walk_blocks};
+use mode::{Keyed, Mode, Walk, permits, walk_blocks};
 use refusal::Refusal;
 
 const TOP: u128 = 0x8000_0000_0000_0000_0000_0000_0000_0000;
@@ -34,6 +33,56 @@ pub fn double(mask: Block) -> Block
     swap(shift(swap(mask)))
 }
 
+// One of a cipher's two calls.
+trait Call {
+    ghost answered: { Self → ℕ → ℕ };
+
+    fn call(&self, block: Block) -> Block
+        ensures { result ≡ answered self.now block };
+}
+
+#[derive(Drop)]
+struct Sealing<'a, C>(&'a C);
+
+#[derive(Drop)]
+struct Opening<'a, C>(&'a C);
+
+impl<C: Cipher> Call for Sealing<'_, C> {
+    ghost answered = { λ s. sealing C.Cipher s.0.now };
+
+    fn call(&self, block: Block) -> Block {
+        self.0.seal(block)
+    }
+}
+
+impl<C: Cipher> Call for Opening<'_, C> {
+    ghost answered = { λ s. opening C.Cipher s.0.now };
+
+    fn call(&self, block: Block) -> Block {
+        self.0.open(block)
+    }
+}
+
+// Each block through a call, under its mask.
+#[derive(Drop)]
+struct Masked<K> {
+    call: K,
+}
+
+impl<K: Call> Walk for Masked<K> {
+    ghost turned = { λ m. masked (K.answered m.call) };
+
+    ghost stepped = { λ m. doubled };
+
+    fn turn(&self, mask: Block, block: Block) -> Block {
+        self.call.call(block ^ mask) ^ mask
+    }
+
+    fn step(&self, mask: Block) -> Block {
+        double(mask)
+    }
+}
+
 #[derive(Drop)]
 pub struct Xts<C: Cipher> {
     first: C,
@@ -50,22 +99,21 @@ impl<C: Cipher> Xts<C> {
         }
     }
 
-    // The whole text, each block through `turn`, or a refusal of its length.
-    fn turn_text<F: Fn(Block) -> Block>(
+    // The whole text, each block through the call, or a refusal of its length.
+    fn turn_text<K: Call + Drop>(
         &self,
-        turn: F,
+        call: K,
         tweak: Block,
         text: &mut [u8],
     ) -> Result<(), Refusal>
-        requires { F.IsAlwaysCallable turn }
         ensures reply { answer result ≡ mode_answer (length text.old) }
-        ensures bytes { (e : ℕ → ℕ) → Answers (F.post turn) e → text.new ≡ (if permitted (length text.old) then blockwise e (sealing C.Cipher self.now.second tweak) text.old else text.old) }
+        ensures bytes { text.new ≡ (if permitted (length text.old) then blockwise (K.answered call) (sealing C.Cipher self.now.second tweak) text.old else text.old) }
     {
         if !permits(text.len()) {
             return Err(Refusal::Length);
         }
         let start = self.second.seal(tweak);
-        walk_blocks(text, start, |mask, block| turn(block ^ mask) ^ mask, double);
+        walk_blocks(&Masked { call }, start, text);
         Ok(())
     }
 }
@@ -80,11 +128,11 @@ impl<C: Cipher> Mode for Xts<C> {
         undone (k.sealed first) (k.opened first) (k.sealed second) (k.opened second) (C.Cipher.undoing first) (C.Cipher.undoing second) };
 
     fn seal(&self, tweak: Block, text: &mut [u8]) -> Result<(), Refusal> {
-        self.turn_text(|block| self.first.seal(block), tweak, text)
+        self.turn_text(Sealing(&self.first), tweak, text)
     }
 
     fn open(&self, tweak: Block, text: &mut [u8]) -> Result<(), Refusal> {
-        self.turn_text(|block| self.first.open(block), tweak, text)
+        self.turn_text(Opening(&self.first), tweak, text)
     }
 }
 

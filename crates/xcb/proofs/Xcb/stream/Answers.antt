@@ -1,4 +1,4 @@
-use Rattle.std.proofs.Common.{◌≡◌, ℕ, zero, suc, ◌+◌, ◌/◌, ◌%◌, ◌^◌, ◌<◌, List, ◌++◌, length, take, drop, refl, ap, ◌∙◌, mod-eq_of_lt, arith, rules}
+use Rattle.std.proofs.Common.{◌≡◌, ℕ, zero, suc, ◌+◌, ◌/◌, ◌%◌, ◌^◌, ◌<◌, List, ◌++◌, length, take, drop, refl, ap, ◌∙◌, mod-eq_of_lt, arith}
 use Rattle.block.specs.Blocks.{to_bytes, to_block, walk}
 use Rattle.mode.proofs.Walked.{walked_whole}
 use Rattle.xcb.specs.Xcb.{counted, next}
@@ -22,6 +22,6 @@ returns g c =
     let xs : List ℕ = c.args.part.now in
     let n : ℕ = length xs / 16 in
     let small : length xs < 2 ^ 64 = omega arith in
-    c.walk_blocks.ensures f wrapped (λ s b r hs hb p. search rules) (λ s r hs p. search rules)
+    c.walk_blocks.ensures
     ∙ walked_whole f wrapped n 0 xs (omega arith)
     ∙ walk_wrapped f n 0 xs (omega arith)
