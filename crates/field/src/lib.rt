@@ -78,7 +78,7 @@ fn products(h: u128) -> [[u128; 16]; 32]
     let mut row: [u128; 16] = std::array::from_fn(|k| by_steps(4, k as u128, h));
     for r in table.iter_mut() {
         *r = row;
-        // in place: by `map` a row is copied four times, and a table takes half as long again
+        // in place: by `map` a row is copied through an iterator, and a key takes up to twice as long
         move_on(&mut row);
     }
     table

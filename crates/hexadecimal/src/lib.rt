@@ -30,7 +30,7 @@ pub fn encode(heap: Global, bytes: &[u8]) -> Result<String, AllocError>
 {
     let mut text = String::new(heap);
     for b in bytes {
-        // digit by digit: by `write!` and `{b:02x}` a byte takes several times as long
+        // digit by digit: by `write!` and `{b:02x}` a byte takes more than twice as long
         text.push(digit_of(*b / 16))?;
         text.push(digit_of(*b % 16))?;
     }
