@@ -1,6 +1,8 @@
 // A sealing mode: for each tweak and each permitted length, a sealing and an opening function on strings of that length.
 #![tactic(auto)]
 
+mod turns;
+
 ghost use Rattle.std.specs.Prelude.{◌≡◌, ℕ, ◌%◌, true, ◌&&◌, length, ◌==◌, nat_le};
 ghost use Rattle.mode.specs.Modes.{Alike, Lawful, Sealing, mode_answer, opened_or, permitted, sealed_or, sector_size};
 ghost use Rattle.mode.specs.Walks.{walked};
@@ -8,6 +10,7 @@ ghost use Rattle.refusal.specs.Refusals.{answer};
 
 use block::{BLOCK, Block, known_bytes, load, store};
 use refusal::Refusal;
+pub use turns::{Turns, walk_turns};
 
 // A sector size is a multiple of a block from the smallest to the largest.
 const SMALLEST_SECTOR: usize = 32;

@@ -2,6 +2,9 @@
 #![tactic(auto)]
 
 #[cfg(test)]
+mod closures;
+
+#[cfg(test)]
 mod tests {
     use aes::Aes128;
     use block::{sector_tweak, to_bytes};
