@@ -104,11 +104,16 @@ fn walk_closures<F: Fn(Block, Block) -> Block, N: Fn(Block) -> Block>(
 fn closures_walk_the_whole_blocks(rt: HostRuntime) {
     let mut text = [7; 56];
     let key = 0x10;
-    walk_closures(&mut text, 1, |s, b| b ^ s ^ key, |s| s.wrapping_add(1));
+    walk_closures(
+        &mut text,
+        1,
+        |s, b| b ^ s.wrapping_add(s) ^ key,
+        |s| s.wrapping_add(1),
+    );
     let mut walked = [7; 56];
-    walked[15] = 7 ^ 1 ^ 0x10;
-    walked[31] = 7 ^ 2 ^ 0x10;
-    walked[47] = 7 ^ 3 ^ 0x10;
+    walked[15] = 7 ^ 2 ^ 0x10;
+    walked[31] = 7 ^ 4 ^ 0x10;
+    walked[47] = 7 ^ 6 ^ 0x10;
     assert!(rt; text == walked);
 }
 
